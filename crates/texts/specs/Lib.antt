@@ -1,0 +1,9 @@
+pub mod Plain
+pub mod Contents
+pub mod Wheels
+pub mod Turning
+pub mod Rolling
+pub mod Checks
+pub mod Finishing
+pub mod Printed
+pub mod Digits
