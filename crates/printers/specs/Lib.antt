@@ -1,0 +1,4 @@
+pub mod Paper
+pub mod Tallies
+pub mod Rolls
+pub mod Strips

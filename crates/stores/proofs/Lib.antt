@@ -1,0 +1,4 @@
+pub mod FormLaws
+pub mod PackedForms
+pub mod PackedLaws
+pub mod SlotLaws

@@ -1,0 +1,5 @@
+pub mod Forms
+pub mod Kept
+pub mod Packed
+pub mod Slots
+pub mod Refusals
