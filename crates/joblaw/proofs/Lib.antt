@@ -1,0 +1,4 @@
+pub mod Bodies
+pub mod Commands
+pub mod Leaves
+pub mod Texts
