@@ -1,5 +1,5 @@
 -- The worked figures: what the definitions give, beside what they are to give. `codes` is the bytes of a text.
---   Figure      two lists of bytes that are to be equal
+--   Figure      two lists of numbers that are to be equal
 --   figures     the table
 --   AllHold fs  the two of each figure are equal
 use mathlib.Core.Path.{_≡_}
@@ -8,6 +8,8 @@ use Prim.Native.Nat.{ℕ}
 use lib.Chars.{codes}
 use lib.IntN.{pos, negsuc}
 use Rattle.std.specs.declared.option.Option.the-variants.{Some, None}
+use Rattle.fields.specs.Linking.{joinedText}
+use Rattle.picture.specs.Places.{dotOf}
 use Rattle.texts.specs.Checks.{checkCharacter}
 use Rattle.texts.specs.Digits.{digitWheels, plainPlace, code128Place}
 use Rattle.texts.specs.Finishing.{finishedText}
@@ -36,6 +38,11 @@ figures =
     -- check characters
     ∷ is (checkCharacter Modulus10 (codes "629104150021")) (codes "3")
     ∷ is (checkCharacter Modulus43 (codes "BOOT7")) (codes "9")
+    -- link strings, for a field with the links 2 and 1
+    ∷ is (joinedText (codes "A" ∷ codes "B" ∷ []) (2 ∷ 1 ∷ [])) (codes "BA")
+    ∷ is (joinedText (codes "A" ∷ []) (2 ∷ 1 ∷ [])) (codes "A")
+    -- tenths of a millimetre to dots
+    ∷ is (dotOf 539 ∷ []) (431 ∷ [])
     ∷ []
 
 abbrev pub AllHold : List Figure → Type 0

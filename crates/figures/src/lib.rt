@@ -8,5 +8,5 @@ pub fn worked_figures() -> usize
     ensures hold { λ _. ⌜ AllHold figures ⌝ }
     ensures count { λ r. ⌜ r ≡ length figures ⌝ }
 {
-    10
+    13
 }

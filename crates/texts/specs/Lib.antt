@@ -1,5 +1,6 @@
 pub mod Plain
 pub mod Contents
+pub mod Joining
 pub mod Wheels
 pub mod Turning
 pub mod Rolling

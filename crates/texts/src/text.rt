@@ -23,4 +23,5 @@ pub enum TextFault {
     TooLong,
 }
 
+pub mod join;
 pub mod make;

@@ -5,6 +5,6 @@ use Rattle.figures.proofs.worked_figures.Needs as need
 pub returns : need.returns
 returns c =
     record {
-      hold = (refl, (refl, (refl, (refl, (refl, (refl, (refl, (refl, (refl, (refl, tt))))))))));
+      hold = (refl, (refl, (refl, (refl, (refl, (refl, (refl, (refl, (refl, (refl, (refl, (refl, (refl, tt)))))))))))));
       count = refl;
     }

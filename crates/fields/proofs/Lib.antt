@@ -1,0 +1,4 @@
+pub mod Every
+pub mod Joins
+pub mod Lifting
+pub mod Tests

@@ -1,0 +1,5 @@
+pub mod Bytes
+pub mod Drawn
+pub mod Rows
+pub mod Shapes
+pub mod Whole

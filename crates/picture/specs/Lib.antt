@@ -1,0 +1,7 @@
+pub mod Bits
+pub mod Drawings
+pub mod Inks
+pub mod Picture
+pub mod Places
+pub mod Redrawn
+pub mod Spans
