@@ -1,0 +1,12 @@
+pub mod Basics
+pub mod Readers
+pub mod Fields
+pub mod Saved
+pub mod Calls
+pub mod Bond
+pub mod Recalls
+pub mod Runs
+pub mod Shifted
+pub mod Moved
+pub mod Reading
+pub mod Logs

@@ -1,0 +1,4 @@
+pub mod Entries
+pub mod Ledgers
+pub mod Laws
+pub mod Asking

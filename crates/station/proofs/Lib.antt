@@ -1,0 +1,4 @@
+pub mod Goes
+pub mod Recalling
+pub mod Loading
+pub mod Tagging

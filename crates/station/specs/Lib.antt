@@ -1,0 +1,10 @@
+pub mod Reads
+pub mod Requests
+pub mod Views
+pub mod Status
+pub mod Recalls
+pub mod Steps
+pub mod Drafts
+pub mod Seen
+pub mod Asking
+pub mod Forming
