@@ -22,7 +22,7 @@ pub run-next : (answer work : ℕ) (u v x : View) (log : List Entry) (i : ℕ) (
 run-next answer work u v x log i d ok lt run step =
     let e = noted (getD log i d) ok in
     let split : map (eventOf answer work) (take (i + 1) (set log i e)) ≡ map (eventOf answer work) (take i log) ++ eventOf answer work e ∷ [] =
-      ap (map (eventOf answer work)) (take-more-set log i e lt) ∙ map-append (eventOf answer work) (take i log) (e ∷ [])
+    ap (map (eventOf answer work)) (take-more-set log i e lt) ∙ map-append (eventOf answer work) (take i log) (e ∷ [])
     in
     subst⁻¹ (λ (es : List Event). Run u es x) split (run-more u v x (map (eventOf answer work) (take i log)) (eventOf answer work e) run step)
 

@@ -16,7 +16,15 @@ use stores::store::FormStore;
 use texts::rule::CountingRule;
 
 // Makes a station and does the calls of the log in turn, noting whether each was accepted. The station comes back as it is then.
-pub fn run<S: FormStore, P: Printer, R1: CountingRule, R2: CountingRule>(store: S, printer: P, first: R1, second: R2, log: &mut [Entry<'_>], answer: &mut [u8], work: &mut [u8]) -> Station<S, P, R1, R2>
+pub fn run<S: FormStore, P: Printer, R1: CountingRule, R2: CountingRule>(
+    store: S,
+    printer: P,
+    first: R1,
+    second: R2,
+    log: &mut [Entry<'_>],
+    answer: &mut [u8],
+    work: &mut [u8],
+) -> Station<S, P, R1, R2>
     ensures calls { λ _. ⌜ map (λ (e : Noted). callOf (length (now (answer .entry))) (length (now (work .entry))) (e .call)) (now (log .exit)) ≡ map (λ (e : Noted). callOf (length (now (answer .entry))) (length (now (work .entry))) (e .call)) (now (log .entry)) ⌝ }
     ensures accounted { λ r. ⌜ Throughout (R1·CountingRule .wheels first) (R2·CountingRule .wheels second) (Accounted (P·Printer .paper printer .taken)) (opened (S·FormStore .forms store .at)) (made (S·FormStore .forms store) (P·Printer .paper printer) (R1·CountingRule .wheels first) (R2·CountingRule .wheels second)) (map (eventOf (length (now (answer .entry))) (length (now (work .entry)))) (now (log .exit))) (seen S·FormStore P·Printer R1·CountingRule R2·CountingRule r) ⌝ }
     ensures end { λ r. ⌜ Accounted (P·Printer .paper printer .taken) (fed (R1·CountingRule .wheels first) (R2·CountingRule .wheels second) (opened (S·FormStore .forms store .at)) (map (eventOf (length (now (answer .entry))) (length (now (work .entry)))) (now (log .exit)))) (seen S·FormStore P·Printer R1·CountingRule R2·CountingRule r) ⌝ }

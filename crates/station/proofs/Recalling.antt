@@ -41,10 +41,10 @@ again n form at next l m o lt on e h left = go (left .turns) (left .enough) (lef
           turns = turns;
           enough = omega arith;
           gives =
-            ap (λ k. doneAll n m (commandsFrom turns form k)) e
-            ∙ ap (λ d. thenDone d (λ m. doneAll n m (commandsFrom turns form (nextAt form at)))) (sym h)
-            ∙ sym (turn-of n form at l turns lt)
-            ∙ g;
+              ap (λ k. doneAll n m (commandsFrom turns form k)) e
+              ∙ ap (λ d. thenDone d (λ m. doneAll n m (commandsFrom turns form (nextAt form at)))) (sym h)
+              ∙ sym (turn-of n form at l turns lt)
+              ∙ g;
         }
 
 -- a command refused

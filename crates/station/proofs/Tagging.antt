@@ -38,11 +38,11 @@ pub told : (v u : View) (left size : ℕ) (work out : List ℕ) (n stock : ℕ) 
 told v u left size work out n stock t =
     let left′ : u .paper .left ≡ stock = ap (λ x. x .paper .left) (t .after) in
     let p : Printed v left size u =
-      record {
-        after = t .after ∙ ap (λ s. printed v left size (taken (v .paper) (tagLine v left size) s)) (sym left′);
-        falls = omega (arith, t .falls, left′);
-        never-rises = omega (arith, t .never-rises, left′);
-      }
+    record {
+      after = t .after ∙ ap (λ s. printed v left size (taken (v .paper) (tagLine v left size) s)) (sym left′);
+      falls = omega (arith, t .falls, left′);
+      never-rises = omega (arith, t .never-rises, left′);
+    }
     in
     (none v u left size work out n stock t, subst (λ d. PrintedIn d v u) (sym (t .owes)) p, t .long ∙ ap (λ d. length (lineIn d v)) (sym (t .owes)))
 

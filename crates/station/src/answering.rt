@@ -49,7 +49,14 @@ impl<S: FormStore, P: Printer, R1: CountingRule, R2: CountingRule> Station<S, P,
     }
 
     // One match on what the station is doing together with what is asked accepts, drafts or refuses.
-    pub(crate) fn answer(&mut self, command: &Command<'_>, whole: &[u8], at: usize, answer: &mut [u8], work: &mut [u8]) -> Result<(), Blame>
+    pub(crate) fn answer(
+        &mut self,
+        command: &Command<'_>,
+        whole: &[u8],
+        at: usize,
+        answer: &mut [u8],
+        work: &mut [u8],
+    ) -> Result<(), Blame>
         requires told { ⌜ answerBytes ≤ length (now answer) ⌝ }
         requires room { ⌜ workBytes ≤ length (now work) ⌝ }
         ensures step { λ r. ⌜ Came r (answered (seen S·FormStore P·Printer R1·CountingRule R2·CountingRule (now (self .entry))) (requestOf (plainOf (now (command .entry)))) (now (whole .entry)) at) (seen S·FormStore P·Printer R1·CountingRule R2·CountingRule (now (self .entry))) (seen S·FormStore P·Printer R1·CountingRule R2·CountingRule (now (self .exit))) ⌝ }

@@ -55,7 +55,13 @@ impl<S: FormStore, P: Printer, R1: CountingRule, R2: CountingRule> Station<S, P,
     }
 
     // Does the command at a place of a job; answers the place behind it, or the fault.
-    pub fn command(&mut self, job: &[u8], at: usize, answer: &mut [u8], work: &mut [u8]) -> Result<usize, Fault>
+    pub fn command(
+        &mut self,
+        job: &[u8],
+        at: usize,
+        answer: &mut [u8],
+        work: &mut [u8],
+    ) -> Result<usize, Fault>
         ensures step { λ r. ⌜ Commanded (commanded (seen S·FormStore P·Printer R1·CountingRule R2·CountingRule (now (self .entry))) (now (job .entry)) at (length (now (answer .entry))) (length (now (work .entry)))) r (seen S·FormStore P·Printer R1·CountingRule R2·CountingRule (now (self .entry))) (seen S·FormStore P·Printer R1·CountingRule R2·CountingRule (now (self .exit))) ⌝ }
         ensures answer { λ _. ⌜ now (answer .exit) ≡ answerAfter (seen S·FormStore P·Printer R1·CountingRule R2·CountingRule (now (self .entry))) (now (job .entry)) at (now (answer .entry)) (length (now (work .entry))) ⌝ }
         ensures work { λ _. ⌜ now (work .exit) ≡ workAfter (seen S·FormStore P·Printer R1·CountingRule R2·CountingRule (now (self .entry))) (now (job .entry)) at (length (now (answer .entry))) (now (work .entry)) ⌝ }

@@ -1,7 +1,7 @@
 // A label station: one label, a form store, a printer and two counting rules.
-pub mod calls;
 mod answering;
 mod blame;
+pub mod calls;
 mod draft;
 mod mode;
 mod printing;

@@ -22,7 +22,6 @@ fn characters(owed: u16, left: u64) -> [u8; 2]
     }
 }
 
-
 // Writes the answer into the front of the buffer; bytes behind it stay.
 pub(crate) fn tell(owed: u16, left: u64, answer: &mut [u8])
     requires { ⌜ answerBytes ≤ length (now answer) ⌝ }

@@ -4,11 +4,11 @@ mod telling;
 use faults::Fault;
 use printers::roll::Roll;
 use printers::roll::RollPrinter;
+use station::state::Station;
 use std::io;
 use std::io::BufWriter;
 use std::io::Read;
 use std::io::Write;
-use station::state::Station;
 use stores::packed::PackedFormStore;
 use stores::packed::PackedStore;
 use telling::tell_refusal;
@@ -89,6 +89,12 @@ fn main(rt: LibcRuntime) -> io::Result<()> {
     let mut out = BufWriter::new(rt.stdout());
     let mut answer = [0u8; 13];
     let mut work = [0u8; 1400];
-    do_job(&mut station, job.as_slice(), &mut answer, &mut work, &mut out)?;
+    do_job(
+        &mut station,
+        job.as_slice(),
+        &mut answer,
+        &mut work,
+        &mut out,
+    )?;
     out.flush()
 }

@@ -29,11 +29,10 @@ loop-e-again g c =
     let x = seen (g .S·FormStore) (g .P·Printer) (g .R1·CountingRule) (g .R2·CountingRule) (c .perform-e .last .station) in
     let ok = c .perform-e .result in
     let step : Step v (callOf a w (getD log i none .call)) ok x =
-      subst (λ (k : ℕ). Step v (callOf k w (getD log i none .call)) ok x) (c .loop-e .kept .answer)
-      (subst (λ (k : ℕ). Step v (callOf (length (c .loop-e .answer)) k (getD log i none .call)) ok x) (c .loop-e .kept .work) (c .perform-e .ensures))
+    subst (λ (k : ℕ). Step v (callOf k w (getD log i none .call)) ok x) (c .loop-e .kept .answer)
+    (subst (λ (k : ℕ). Step v (callOf (length (c .loop-e .answer)) k (getD log i none .call)) ok x) (c .loop-e .kept .work) (c .perform-e .ensures))
     in
-    let lt : i < length log = omega arith in
-    (
+    let lt : i < length log = omega arith in (
       simp length-set (omega arith),
       run-next a w _ v x log i none ok lt (c .loop-e .inv .1) step,
       calls-kept (λ e. callOf a w (e .call)) (λ e b. refl) log i none ok lt ∙ c .loop-e .inv .2,

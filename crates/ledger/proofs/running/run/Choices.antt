@@ -12,7 +12,7 @@ abbrev pub Inv-loop-e : given.InvT-loop-e
 Inv-loop-e g l =
     (l .e-index ≤ length (l .log))
     × Run (seen (g .S·FormStore) (g .P·Printer) (g .R1·CountingRule) (g .R2·CountingRule) (l .entry .station))
-        (map (eventOf (length (l .entry .answer)) (length (l .entry .work))) (take (l .e-index) (l .log)))
-        (seen (g .S·FormStore) (g .P·Printer) (g .R1·CountingRule) (g .R2·CountingRule) (l .station))
+    (map (eventOf (length (l .entry .answer)) (length (l .entry .work))) (take (l .e-index) (l .log)))
+    (seen (g .S·FormStore) (g .P·Printer) (g .R1·CountingRule) (g .R2·CountingRule) (l .station))
     × (map (λ (e : Entry). callOf (length (l .entry .answer)) (length (l .entry .work)) (e .call)) (l .log)
-        ≡ map (λ (e : Entry). callOf (length (l .entry .answer)) (length (l .entry .work)) (e .call)) (l .entry .log))
+    ≡ map (λ (e : Entry). callOf (length (l .entry .answer)) (length (l .entry .work)) (e .call)) (l .entry .log))

@@ -32,15 +32,15 @@ returns g c =
     let room : ltb (length work) workBytes ≡ false = let h = c .if-work-lt-WORK-BYTES .left in grind (arith, tells) in
     let some : eqb (v .paper .left) 0 ≡ false = let h = c .if-left-eq0 .left in let k = c .left .ensures in grind (arith, tells) in
     let t : Tagged v u left size work out n stock =
-      record {
-        owes = ap (λ m. doingOf m (self .draft)) (c .in-Owing .is);
-        room = room;
-        stocked = some;
-        long = w .0;
-        written = w .1;
-        after = built v left size _ _ _ _ paper (c .turn .ensures) (c .one-less-self .ensures (self .draft));
-        falls = kept .falls (take (n - 0) out);
-        never-rises = kept .never-rises (take (n - 0) out);
-      }
+    record {
+      owes = ap (λ m. doingOf m (self .draft)) (c .in-Owing .is);
+      room = room;
+      stocked = some;
+      long = w .0;
+      written = w .1;
+      after = built v left size _ _ _ _ paper (c .turn .ensures) (c .one-less-self .ensures (self .draft));
+      falls = kept .falls (take (n - 0) out);
+      never-rises = kept .never-rises (take (n - 0) out);
+    }
     in
     record { step = told v u left size work out n stock t; work = leaves v u left size work out n stock t }
