@@ -1,4 +1,6 @@
 // Drives every kind of store and printer through the same calls, and prints what happened.
+#![tactic(auto)]
+
 use printers::roll::Roll;
 use printers::strip::Strip;
 use std::io;

@@ -1,4 +1,6 @@
 // What a station refuses, and how a refusal is told: by number, layer, form, place and next place.
+#![tactic(auto)]
+
 ghost use Rattle.std.specs.Prelude.{◌≡◌};
 ghost use Rattle.faults.specs.Numbers.{number_of, layer_of, letter_of};
 

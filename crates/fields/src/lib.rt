@@ -1,4 +1,6 @@
 // The fields of a label: their formats, links and texts.
+#![tactic(auto)]
+
 pub mod fault;
 pub mod field;
 pub mod format;

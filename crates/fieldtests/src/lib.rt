@@ -1,4 +1,6 @@
 // Tests of the field table and of the finished line: each refusal, links, and a line.
+#![tactic(auto)]
+
 #[cfg(test)]
 mod tests {
     use fields::fault::FieldFault;

@@ -1,4 +1,6 @@
 // The worked figures of the rules, proved about the definitions that the contracts use.
+#![tactic(auto)]
+
 ghost use Rattle.std.specs.Prelude.{◌≡◌, length};
 ghost use Rattle.figures.specs.Figures.{figures, AllHold};
 

@@ -1,4 +1,6 @@
 // Reads the commands of a job.
+#![tactic(auto)]
+
 pub mod commands;
 pub mod dispatch;
 pub mod fault;

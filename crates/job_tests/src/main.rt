@@ -1,5 +1,7 @@
 // Reads cases from standard input, one to a line, and writes what the reader answers to each.
 // A case is a place, a number of bytes to add behind, and a job in which \hh is the byte with that number.
+#![tactic(auto)]
+
 ghost use Rattle.std.specs.Prelude.{◌<◌};
 
 use faults::Fault;

@@ -1,4 +1,6 @@
 // Reading with the law that a command is read alike wherever it stands.
+#![tactic(auto)]
+
 ghost use Rattle.std.specs.Prelude.{◌≡◌, ℕ, ◌≤◌, List, ◌++◌, length};
 ghost use Rattle.limits.specs.Limits.{longest_job};
 ghost use Rattle.job.specs.Reading.{read_at, plain_answer, answer_of, next_of};

@@ -1,4 +1,6 @@
 // Reads a job from standard input and lists its commands with their parts, or why one is refused.
+#![tactic(auto)]
+
 mod show;
 
 use faults::{Fault, Refusal};

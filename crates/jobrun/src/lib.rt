@@ -1,4 +1,6 @@
 // Works through a job on a station: one command after another, and every tag that is owed before the next.
+#![tactic(auto)]
+
 pub mod listener;
 pub mod stepping;
 pub mod turn;

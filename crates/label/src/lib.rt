@@ -1,4 +1,6 @@
 // A label: its sizes, fields and drawings, and what commands do to them.
+#![tactic(auto)]
+
 mod action;
 pub mod drawings;
 pub mod fault;

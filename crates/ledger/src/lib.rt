@@ -1,4 +1,6 @@
 // The tag ledger of a station, and the law that it accounts for every tag of every run.
+#![tactic(auto)]
+
 pub mod asking;
 pub mod performing;
 pub mod running;

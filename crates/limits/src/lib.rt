@@ -1,3 +1,5 @@
 // The limits and the kinds of bytes that every layer shares.
+#![tactic(auto)]
+
 pub mod bytes;
 pub mod sizes;

@@ -1,4 +1,6 @@
 // The picture of a label: what its drawings make of 400 rows of dots.
+#![tactic(auto)]
+
 ghost use Rattle.std.specs.Prelude.{◌≡◌, ◌≤◌, length, if◌then◌else◌, Ok, Err};
 ghost use Rattle.limits.specs.Limits.{picture_bytes};
 ghost use Rattle.picture.specs.Picture.{drawn, white, cut_at, picture, too_short, shown};

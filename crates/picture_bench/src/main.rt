@@ -1,4 +1,6 @@
 // What drawing costs: reads one letter for each drawing, draws them, and prints how many dots are black.
+#![tactic(auto)]
+
 use anyhow::anyhow;
 use limits::sizes::{MOST_DRAWINGS, PICTURE_BYTES};
 use picture::draw;

@@ -1,4 +1,6 @@
 // A label station: one label, a form store, a printer and two counting rules.
+#![tactic(auto)]
+
 mod answering;
 mod blame;
 pub mod calls;

@@ -1,4 +1,6 @@
 // Form stores: what a store means, the kinds of stores, and the layers over any store.
+#![tactic(auto)]
+
 pub mod answers;
 pub mod cache;
 pub mod packed;

@@ -1,4 +1,6 @@
 // The line of a finished tag, as it is handed to the printer.
+#![tactic(auto)]
+
 mod digits;
 pub mod line;
 mod put;

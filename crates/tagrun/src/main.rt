@@ -1,4 +1,6 @@
 // Does a job of standard input on a new station, and writes every tag's line and every refusal.
+#![tactic(auto)]
+
 use jobparts::bytes::first;
 use jobrun::listener::Listener;
 use jobrun::turn::Turn;

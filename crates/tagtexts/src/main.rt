@@ -1,4 +1,6 @@
 // Reads orders from standard input, one to a line, and prints the finished texts of each run.
+#![tactic(auto)]
+
 mod order;
 mod run;
 

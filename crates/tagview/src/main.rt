@@ -1,4 +1,6 @@
 // Reads a job from standard input, does its label commands on a new label, and writes the label's picture as a PBM file.
+#![tactic(auto)]
+
 mod doing;
 
 use anyhow::anyhow;

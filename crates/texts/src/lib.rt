@@ -1,4 +1,6 @@
 // Tag texts: what they may hold, how they count, and what is finally printed of them.
+#![tactic(auto)]
+
 pub mod checks;
 pub mod digits;
 pub mod finished;

@@ -1,4 +1,6 @@
 // Turns forty zeros 9,999 times and prints the last text: the work that bench/turning.sh counts.
+#![tactic(auto)]
+
 use std::{env, io};
 use texts::digits::PlainRule;
 use texts::text::Text;

@@ -1,4 +1,6 @@
 // Runs outside vectors: GS1's published check digits, and what TPCL printers print when they count and suppress zeros.
+#![tactic(auto)]
+
 mod checks;
 mod counting;
 
