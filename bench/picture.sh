@@ -3,7 +3,7 @@
 # Run it in the repository's folder; it wants valgrind, and builds target/bin/picture_bench where that is not there.
 set -eu
 program=target/bin/picture_bench
-[ -x "$program" ] || rt check picture_bench >/dev/null
+[ -x "$program" ] || tools/build picture_bench
 
 # instructions LETTERS: those that the whole program runs
 instructions() {

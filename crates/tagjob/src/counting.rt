@@ -1,4 +1,4 @@
-// The call for programs in C.
+// How many tags a job prints, for whoever does not want to hear of them one by one.
 ghost use Rattle.std.specs.Prelude.{◌≡◌};
 ghost use Rattle.tagjob.specs.Printing.{Told};
 
@@ -20,8 +20,7 @@ impl Listener for Silence {
 }
 
 // How many tags the program `tagrun` prints for a job. A job that is too long and buffers that are too short print none.
-#[unsafe(no_mangle)]
-pub extern "C" fn count_tags(job: &[u8], answer: &mut [u8], work: &mut [u8]) -> u32
+pub fn count_tags(job: &[u8], answer: &mut [u8], work: &mut [u8]) -> u32
     ensures { Told job.now answer.old work.old result answer.new work.new }
 {
     match run_job(job, answer, work, &mut Silence) {
