@@ -1,6 +1,5 @@
 -- A text that its check takes is taken after every turn: digits stay digits, capitals stay capitals, all else stays.
-use Rattle.std.proofs.Common.{◌≡◌, ℕ, zero, suc, ◌<◌, Bool, true, false, cond, eqb, List, [], ◌∷◌, length, get_or, ℤ, sym, refl, ap, ◌∙◌, le_of_suc-le-suc, not-suc-le-zero, arith}
-use Rattle.std.proofs.lemmas.Bool.Decides.{nat_tests}
+use Rattle.std.proofs.Common.{◌≡◌, ℕ, zero, suc, ◌<◌, Bool, true, false, cond, eqb, List, [], ◌∷◌, length, get_or, ℤ, refl, ap, ◌∙◌, le_of_suc-le-suc, not-suc-le-zero, arith}
 use Rattle.limits.specs.Bytes.{is_digit, is_capital}
 use Rattle.texts.specs.Wheels.{Wheels}
 use Rattle.texts.specs.Turning.{Turned}

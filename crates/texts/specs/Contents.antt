@@ -2,7 +2,7 @@
 --   contents t     the bytes of the text t
 --   Made s r       r is what making a text from the bytes s answers: the text with just these bytes; or, a byte that no
 --                  text may hold being worse than too many bytes, the place of the first such byte; or that they are too many
-use Rattle.std.specs.Prelude.{◌≡◌, ℕ, ◌<◌, ◌≤◌, true, false, List, length, take, Ok, Err, Result, slice_index}
+use Rattle.std.specs.Prelude.{◌≡◌, ℕ, ◌<◌, ◌≤◌, false, List, length, take, Ok, Err, Result, slice_index}
 use Rattle.limits.specs.Bytes.{in_text}
 use Rattle.limits.specs.Limits.{longest_text}
 use Rattle.texts.specs.Plain.{InTextBelow}

@@ -21,10 +21,10 @@ pub loop-k-init : goal.loop-k-init
 loop-k-init g c =
     let w = g.R.CountingRule.wheels c.args.rule.now in
     let l = g.met.R.CountingRule.lawful c.args.rule.now in
-    carried_none w l c.args.text.now c.requires _ c.unsigned-abs-carry.result
+    carried_none w l c.args.text.now c.requires _ c.unsigned_abs-carry.result
 
-pub turn-place-carry-requires : goal.turn-place-carry-requires
-turn-place-carry-requires g c =
+pub turn_place-carry-requires : goal.turn_place-carry-requires
+turn_place-carry-requires g c =
     let w = g.R.CountingRule.wheels c.args.rule.now in
     let l = g.met.R.CountingRule.lawful c.args.rule.now in
     let t = c.args.text.now in
@@ -34,8 +34,8 @@ pub loop-k-preserved : goal.loop-k-preserved
 loop-k-preserved g c =
     let w = g.R.CountingRule.wheels c.args.rule.now in
     let l = g.met.R.CountingRule.lawful c.args.rule.now in
-    carried_step w l c.args.text.now c.requires _ c.unsigned-abs-carry.result c.loop-k.k c.loop-k.carry c.turn-place-carry.result c.from-right.result c.loop-k.text
-    c.turn-place-carry.new.text (omega arith) c.from-right.ensures c.loop-k.invariant c.turn-place-carry.ensures
+    carried_step w l c.args.text.now c.requires _ c.unsigned_abs-carry.result c.loop-k.k c.loop-k.carry c.turn_place-carry.result c.from_right.result c.loop-k.text
+    c.turn_place-carry.new.text (omega arith) c.from_right.ensures c.loop-k.invariant c.turn_place-carry.ensures
 
 pub returns : goal.returns
 returns g c =
@@ -45,5 +45,5 @@ returns g c =
     let step = c.args.step in
     let bits = to_z-of_z w64 step c.ranges.step in
     turned_means w l t c.requires step c.loop-k.text
-    (carried_all w l t c.requires _ c.unsigned-abs-carry.result _ _ c.loop-k.text step
-    (c.unsigned-abs-carry.ensures.value ∙ ap nat_abs bits) (ap (λ z. lt_z z (pos 0)) (sym bits)) (some_bits step c.if-step-eq0.false) (omega arith) c.loop-k.invariant)
+    (carried_all w l t c.requires _ c.unsigned_abs-carry.result _ _ c.loop-k.text step
+    (c.unsigned_abs-carry.ensures.value ∙ ap nat_abs bits) (ap (λ z. lt_z z (pos 0)) (sym bits)) (some_bits step c.if-step-eq0.false) (omega arith) c.loop-k.invariant)

@@ -1,10 +1,10 @@
-use Rattle.std.proofs.Common.{◌≡◌, ℕ, ◌+◌, ◌<◌, true, false, cond, length, get_or, drop, sym, ap, ◌∙◌, arith, rules}
+use Rattle.std.proofs.Common.{◌≡◌, ◌+◌, ◌<◌, true, false, cond, length, get_or, drop, sym, ap, ◌∙◌, arith, rules}
 use Rattle.std.proofs.lemmas.List.{at_drop_more, at_drop_all}
 use Rattle.texts.specs.Checks.{admits_all, admits}
 use Rattle.texts.proofs.checks.Check.admits.Goals as goal
 
-pub returns-then-not-admits-one : goal.returns-then-not-admits-one
-returns-then-not-admits-one c =
+pub returns-then-not-admits_one : goal.returns-then-not-admits_one
+returns-then-not-admits_one c =
     let text = c.args.text.now in
     let check = c.args.self in
     let i = c.loop-b.b-index in

@@ -1,5 +1,5 @@
 -- The other text lies right behind the first.
-use Rattle.std.proofs.Common.{◌≡◌, ℕ, ◌+◌, ◌-◌, ◌<◌, ◌≤◌, true, List, [], ◌++◌, length, get_or, take, sym, refl, ap, ◌∙◌, ⊎_elim, arith, rules}
+use Rattle.std.proofs.Common.{◌≡◌, ℕ, ◌+◌, ◌-◌, ◌<◌, List, [], ◌++◌, length, get_or, take, sym, refl, ap, ◌∙◌, ⊎_elim, arith, rules}
 use Rattle.std.proofs.lemmas.List.{append_assoc, length-append, length-take-le, take_at, get_or-take, get_or_append_left, get_or-append_right, places}
 use Rattle.std.proofs.lemmas.Bool.{cases_lt}
 use Rattle.limits.specs.Bytes.{in_text}
@@ -37,17 +37,17 @@ module _ (x y : Text) (last post : List ℕ) (m : ℕ) (same : last ≡ contents
   pub joined_long : length (contents x ++ contents y) ≡ x.len + m
   joined_long = length-append (contents x) (contents y) ∙ omega (arith, long x, count, ap length same)
 
-pub returns-then-n-m-gt-LONGEST-TEXT : goal.returns-then-n-m-gt-LONGEST-TEXT
-returns-then-n-m-gt-LONGEST-TEXT c =
-    omega (arith, joined_long c.args.self.now c.args.more.now c.as-bytes-added.result.now [] (length c.as-bytes-added.result.now) c.as-bytes-added.ensures.value refl)
+pub returns-then-n-m-gt-LONGEST_TEXT : goal.returns-then-n-m-gt-LONGEST_TEXT
+returns-then-n-m-gt-LONGEST_TEXT c =
+    omega (arith, joined_long c.args.self.now c.args.more.now c.as_bytes-added.result.now [] (length c.as_bytes-added.result.now) c.as_bytes-added.ensures.value refl)
 
-pub invariant-of-result : goal.invariant-of-result
-invariant-of-result c =
-    let same : c.copy-from-slice.new.self ≡ contents c.args.more.now = c.copy-from-slice.ensures.after ∙ c.as-bytes-added.ensures.value in
-    (search (rules, places), (omega arith, (joined_plain c.args.self.now c.args.more.now _ _ _ same (search rules), tt)))
+pub invariant_of-result : goal.invariant_of-result
+invariant_of-result c =
+    let same : c.copy_from_slice.new.self ≡ contents c.args.more.now = c.copy_from_slice.ensures.after ∙ c.as_bytes-added.ensures.value in
+    record { sized = search (rules, places); within = omega arith; plain = joined_plain c.args.self.now c.args.more.now _ _ _ same (search rules) }
 
 pub returns : goal.returns
 returns c =
-    let same : c.copy-from-slice.new.self ≡ contents c.args.more.now = c.copy-from-slice.ensures.after ∙ c.as-bytes-added.ensures.value in
-    let count : length c.as-bytes-added.result.now ≡ length c.copy-from-slice.new.self = search rules in
+    let same : c.copy_from_slice.new.self ≡ contents c.args.more.now = c.copy_from_slice.ensures.after ∙ c.as_bytes-added.ensures.value in
+    let count : length c.as_bytes-added.result.now ≡ length c.copy_from_slice.new.self = search rules in
     (joined_text_lem c.args.self.now c.args.more.now _ _ _ same count, omega (arith, joined_long c.args.self.now c.args.more.now _ [] _ same count))
