@@ -10,6 +10,6 @@ pub returns : goal.returns
 returns c accepted =
     let strings = map contents c.args.strings.now in
     let t = seen_fields c.args.self.now in
-    let texts : ◌≡◌ {A = Table} (record { texts = map seen_field c.link-all.new.fields; bars = map seen_field c.link-all-2.new.fields }) (record { texts = map (linked_if_fits strings) t.texts; bars = map seen_field c.link-all-2.new.fields }) = ap (λ l. record { texts = l; bars = map seen_field c.link-all-2.new.fields }) c.link-all.ensures in
-    let bars : ◌≡◌ {A = Table} (record { texts = map (linked_if_fits strings) t.texts; bars = map seen_field c.link-all-2.new.fields }) (each_slot (linked_if_fits strings) t) = ap (λ l. record { texts = map (linked_if_fits strings) t.texts; bars = l }) c.link-all-2.ensures in
+    let texts : ◌≡◌ {A = Table} (record { texts = map seen_field c.link_all.new.fields; bars = map seen_field c.link_all-2.new.fields }) (record { texts = map (linked_if_fits strings) t.texts; bars = map seen_field c.link_all-2.new.fields }) = ap (λ l. record { texts = l; bars = map seen_field c.link_all-2.new.fields }) c.link_all.ensures in
+    let bars : ◌≡◌ {A = Table} (record { texts = map (linked_if_fits strings) t.texts; bars = map seen_field c.link_all-2.new.fields }) (each_slot (linked_if_fits strings) t) = ap (λ l. record { texts = map (linked_if_fits strings) t.texts; bars = l }) c.link_all-2.ensures in
     texts ∙ bars ∙ table_fits strings t (accepted_fits strings t accepted)

@@ -1,11 +1,11 @@
-use Rattle.std.proofs.Common.{◌≡◌, map, sym, ◌∙◌, arith, rules}
+use Rattle.std.proofs.Common.{map, arith, rules}
 use Rattle.texts.specs.Contents.{contents}
 use Rattle.fields.specs.Linking.{outside_if_fits}
 use Rattle.fields.proofs.Tests.{passes, goes_on, none_passed}
 use Rattle.fields.proofs.table.linking.some_outside.Goals as goal
 
-pub returns-then-joins-outside : goal.returns-then-joins-outside
-returns-then-joins-outside c =
+pub returns-then-joins_outside : goal.returns-then-joins_outside
+returns-then-joins_outside c =
     passes (outside_if_fits (map contents c.args.strings.now)) c.args.fields.now c.loop-f.f-index c.f-item.result c.f-item.is (omega arith) c.loop-f.invariant (search rules)
 
 pub loop-f-preserved : goal.loop-f-preserved
