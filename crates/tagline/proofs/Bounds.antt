@@ -1,5 +1,5 @@
 -- No line is longer than the longest line: a head of 9 bytes, 24 pieces of at most 56, and LF.
-use Rattle.std.proofs.Common.{◌≡◌, ℕ, zero, suc, ◌+◌, ◌-◌, ◌*◌, ◌≤◌, Bool, true, false, cond, eqb, leb, List, [], ◌∷◌, ◌++◌, map, length, replicate, pos, Some, None, Option, sym, refl, ap, ◌∙◌, arith, length-append}
+use Rattle.std.proofs.Common.{◌≡◌, ℕ, zero, suc, ◌+◌, ◌-◌, ◌*◌, ◌≤◌, Bool, true, false, cond, eqb, leb, List, [], ◌∷◌, ◌++◌, map, length, replicate, pos, Some, None, Option, refl, ap, arith, length-append}
 use Rattle.limits.specs.Limits.{longest_text, longest_finished, longest_line}
 use Rattle.std.proofs.lemmas.List.{length-take-le}
 use Rattle.texts.specs.Checks.{check_character}

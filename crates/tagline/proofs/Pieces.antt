@@ -1,10 +1,9 @@
 -- Pieces written one behind the other.
-use Rattle.std.proofs.Common.{◌≡◌, ℕ, ◌+◌, ◌*◌, ◌<◌, ◌≤◌, false, cond, eqb, List, [], ◌∷◌, ◌++◌, map, length, get_or, take, drop, set, Some, sym, refl, ap, ◌∙◌, append_assoc, append-nil, arith, length-append}
-use Rattle.std.proofs.lemmas.List.{take_at, drop_at, drop-drop, drop_more, set_at, length-take-le, length-map, get_or-map, take-append-drop, at_drop_more, at_drop_all}
+use Rattle.std.proofs.Common.{◌≡◌, ℕ, ◌+◌, ◌*◌, ◌<◌, ◌≤◌, false, cond, eqb, List, [], ◌∷◌, ◌++◌, length, get_or, take, drop, set, Some, sym, ap, ◌∙◌, append_assoc, append-nil, arith, length-append}
+use Rattle.std.proofs.lemmas.List.{take_at, drop_at, drop-drop, drop_more, set_at, length-take-le, take-append-drop, at_drop_more, at_drop_all}
 use Rattle.std.proofs.lemmas.Slice.{drop-append-drop}
 use Rattle.texts.specs.Finishing.{finished_text}
-use Rattle.fields.specs.Records.{Layout, Slot, seen_field, blank_slot}
-use Rattle.fields.specs.declared.field.Field.{Field}
+use Rattle.fields.specs.Records.{Layout, Slot, blank_slot}
 use Rattle.tagline.specs.Line.{piece_head, piece_of, piece, pieces_from, longest_piece}
 
 -- the piece of a field with a format and a text

@@ -5,7 +5,7 @@ use Rattle.tagline.proofs.line.write_piece_at.Goals as goal
 pub returns : goal.returns
 returns c =
     record {
-      place = omega (arith, c.write-piece-n.ensures.count);
-      short = omega (arith, c.write-piece-n.ensures.short);
+      place = omega (arith, c.write_piece-n.ensures.count);
+      short = omega (arith, c.write_piece-n.ensures.short);
       after = same_lists _ _ (search (rules, places)) (λ k d h. grind (arith, places));
     }

@@ -1,4 +1,4 @@
-use Rattle.std.proofs.Common.{◌≡◌, ◌≤◌, map, length}
+use Rattle.std.proofs.Common.{◌≤◌, map, length}
 use Rattle.fields.specs.Records.{seen_field}
 use Rattle.tagline.proofs.Pieces.{Laid}
 use Rattle.tagline.proofs.line.write_pieces.Given as goal
