@@ -10,7 +10,7 @@
 --   ShortSlots ss  no text of the fields ss is longer than a text may be
 use Rattle.std.specs.Prelude.{◌≡◌, ℕ, ◌+◌, ◌<◌, ◌≤◌, cond, List, [], ◌∷◌, ◌++◌, length, drop, Some, None, Option, ◌==◌}
 use Rattle.limits.specs.Limits.{longest_text, longest_finished, longest_line}
-use Rattle.std.specs.List.{AllByRecursion as All}
+use Rattle.std.specs.List.{AllByRecursion}
 use Rattle.texts.specs.Finishing.{finished_text}
 use Rattle.fields.specs.Records.{Layout, Slot}
 use Rattle.fields.specs.Tables.{Table}
@@ -62,7 +62,7 @@ abbrev pub line_of : ℕ → ℕ → Table → List ℕ
 line_of number size t = line_over number size t.texts t.bars
 
 abbrev pub ShortSlots : List Slot → Type 0
-ShortSlots = All (λ s. length s.text ≤ longest_text)
+ShortSlots = AllByRecursion (λ s. length s.text ≤ longest_text)
 
 abbrev pub Written : List ℕ → List ℕ → List ℕ → Option ℕ → Type 0
 Written line before after (Some n) = (n ≡ length line) × (after ≡ line ++ drop n before) × (n ≤ longest_line) × (longest_line ≤ length before)
