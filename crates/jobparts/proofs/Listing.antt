@@ -1,5 +1,5 @@
 -- A list of elements, one element on.
-use Rattle.std.proofs.Common.{◌≡◌, ℕ, zero, suc, ◌+◌, ◌-◌, true, false, cond, eqb, ltb, List, Ok, Err, Result, refl, arith}
+use Rattle.std.proofs.Common.{◌≡◌, ℕ, zero, suc, ◌+◌, ◌-◌, true, cond, eqb, ltb, List, Ok, Err, Result, refl, arith}
 use Rattle.std.proofs.lemmas.Bool.{lt-ltb}
 use Rattle.jobparts.specs.Items.{element_at, list_at}
 use Rattle.jobparts.specs.Kinds.{stands}

@@ -4,7 +4,7 @@
 --   group_at      what the items of a group yield, one behind the other, or the leftmost wrong one
 --   row_at        what the groups of a command yield; nothing may be left over behind them
 --   one_of, one_letter   the rules that admit some numbers, and some letters
-use Rattle.std.specs.Prelude.{ℕ, ◌-◌, Bool, true, false, cond, List, [], ◌∷◌, ◌++◌, map, Ok, Err, Result, ◌==◌, slice_index}
+use Rattle.std.specs.Prelude.{ℕ, ◌-◌, Bool, true, false, cond, List, [], ◌∷◌, ◌++◌, map, Ok, Result, ◌==◌, slice_index}
 use Rattle.jobparts.specs.Items.{Admits, byte_at, end_at, part_at, number_at, chosen_at, text_at, list_part_at, lettered_at, signed_at, source_at}
 use Rattle.jobparts.specs.Slots.{Slot, Got, bytes_of, then}
 use Rattle.jobparts.specs.Values.{number_of}

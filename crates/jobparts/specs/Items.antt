@@ -1,5 +1,5 @@
 -- The items that commands are made of, and the one reading of them.
-use Rattle.std.specs.Prelude.{ℕ, zero, suc, ◌+◌, ◌-◌, Bool, true, false, cond, List, [], ◌∷◌, ◌++◌, map, length, take, drop, Ok, Err, Result, nat_eq, nat_le, nat_lt, slice_index_or, slice_range}
+use Rattle.std.specs.Prelude.{ℕ, zero, suc, ◌+◌, ◌-◌, Bool, cond, List, [], ◌∷◌, map, length, take, drop, Ok, Err, Result, nat_eq, nat_le, nat_lt, slice_index_or, slice_range}
 use Rattle.limits.specs.Bytes.{between}
 use Rattle.limits.specs.Limits.{longest_text}
 use Rattle.jobparts.specs.Kinds.{run, stands, is_sign}

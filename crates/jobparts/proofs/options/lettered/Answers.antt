@@ -2,17 +2,17 @@ use Rattle.std.proofs.Common.{rules}
 use Rattle.jobparts.specs.Items.{lettered_at}
 use Rattle.jobparts.proofs.options.lettered.Goals as goal
 
-pub returns-then-not-stands-at : goal.returns-then-not-stands-at
+pub returns-then-not-stands_at : goal.returns-then-not-stands_at
 unfolding lettered_at
-returns-then-not-stands-at c = search rules
+returns-then-not-stands_at c = search rules
 
-pub returns-then-not-stands-at-2 : goal.returns-then-not-stands-at-2
+pub returns-then-not-stands_at-2 : goal.returns-then-not-stands_at-2
 unfolding lettered_at
-returns-then-not-stands-at-2 c = search rules
+returns-then-not-stands_at-2 c = search rules
 
-pub returns-in-err-figure : goal.returns-in-err-figure
+pub returns-in_err-figure : goal.returns-in_err-figure
 unfolding lettered_at
-returns-in-err-figure c = search rules
+returns-in_err-figure c = search rules
 
 pub returns : goal.returns
 unfolding lettered_at

@@ -2,9 +2,9 @@ use Rattle.std.proofs.Common.{rules}
 use Rattle.jobparts.specs.Items.{number_at}
 use Rattle.jobparts.proofs.take.number.Goals as goal
 
-pub returns-in-err-digits : goal.returns-in-err-digits
+pub returns-in_err-digits : goal.returns-in_err-digits
 unfolding number_at
-returns-in-err-digits c = search rules
+returns-in_err-digits c = search rules
 
 pub returns-then-n-low : goal.returns-then-n-low
 unfolding number_at

@@ -2,9 +2,9 @@ use Rattle.std.proofs.Common.{rules}
 use Rattle.jobparts.specs.Items.{link_at}
 use Rattle.jobparts.proofs.text.link.Goals as goal
 
-pub returns-in-err--number : goal.returns-in-err--number
+pub returns-in_err-_number : goal.returns-in_err-_number
 unfolding link_at
-returns-in-err--number c = search rules
+returns-in_err-_number c = search rules
 
 pub returns : goal.returns
 unfolding link_at

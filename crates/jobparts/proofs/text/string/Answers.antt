@@ -2,13 +2,13 @@ use Rattle.std.proofs.Common.{rules}
 use Rattle.jobparts.specs.Items.{string_at}
 use Rattle.jobparts.proofs.text.string.Goals as goal
 
-pub returns-in-err-string-stops : goal.returns-in-err-string-stops
+pub returns-in_err-string_stops : goal.returns-in_err-string_stops
 unfolding string_at
-returns-in-err-string-stops c = search rules
+returns-in_err-string_stops c = search rules
 
-pub returns-in-err-admit : goal.returns-in-err-admit
+pub returns-in_err-admit : goal.returns-in_err-admit
 unfolding string_at
-returns-in-err-admit c = search rules
+returns-in_err-admit c = search rules
 
 pub returns : goal.returns
 unfolding string_at
