@@ -17,20 +17,13 @@ use Rattle.jobgroups.specs.declared.command.Magnification.{Magnification}
 use Rattle.jobgroups.specs.declared.command.Lettering.{Lettering}
 use Rattle.jobgroups.specs.declared.command.Height.{Height}
 use Rattle.jobgroups.specs.declared.command.Extras.{Extras}
-use Rattle.jobgroups.specs.declared.command.TextFormat.{TextFormat}
 use Rattle.jobgroups.specs.declared.command.BarType.{BarType}
 use Rattle.jobgroups.specs.declared.command.Widths.{Widths}
-use Rattle.jobgroups.specs.declared.command.BarFormat.{BarFormat}
-use Rattle.jobgroups.specs.declared.command.FieldText.{FieldText}
 use Rattle.jobgroups.specs.declared.command.Ends.{Ends}
 use Rattle.jobgroups.specs.declared.command.Shape.{Shape}
-use Rattle.jobgroups.specs.declared.command.Line.{Line}
 use Rattle.jobgroups.specs.declared.command.Count.{Count}
-use Rattle.jobgroups.specs.declared.command.Area.{Area}
 use Rattle.jobgroups.specs.declared.command.Setup.{Setup}
-use Rattle.jobgroups.specs.declared.command.Issue.{Issue}
 use Rattle.jobgroups.specs.declared.command.Form.{Form}
-use Rattle.jobgroups.specs.declared.command.Recall.{Recall}
 
 pub record Plain : Type 0 where
   pub letters : Letters

@@ -2,14 +2,14 @@ use Rattle.std.proofs.Common.{rules}
 use Rattle.jobgroups.specs.Table.{end_fits}
 use Rattle.jobgroups.proofs.checks.end_fits.Goals as goal
 
-pub returns-then-x-last-x : goal.returns-then-x-last-x
+pub returns-then-x-last_x : goal.returns-then-x-last_x
 unfolding end_fits
-returns-then-x-last-x c = search rules
+returns-then-x-last_x c = search rules
 
-pub returns-else-x-last-x : goal.returns-else-x-last-x
+pub returns-else-x-last_x : goal.returns-else-x-last_x
 unfolding end_fits
-returns-else-x-last-x c = search rules
+returns-else-x-last_x c = search rules
 
-pub returns-else-last-y-le499 : goal.returns-else-last-y-le499
+pub returns-else-last_y-le499 : goal.returns-else-last_y-le499
 unfolding end_fits
-returns-else-last-y-le499 c = search rules
+returns-else-last_y-le499 c = search rules

@@ -2,13 +2,13 @@ use Rattle.std.proofs.Common.{rules}
 use Rattle.jobgroups.specs.Table.{bar_field}
 use Rattle.jobgroups.proofs.groups.bar_field.Goals as goal
 
-pub returns-in-err-field : goal.returns-in-err-field
+pub returns-in_err-field : goal.returns-in_err-field
 unfolding bar_field
-returns-in-err-field c = search rules
+returns-in_err-field c = search rules
 
-pub returns-in-err-at : goal.returns-in-err-at
+pub returns-in_err-at : goal.returns-in_err-at
 unfolding bar_field
-returns-in-err-at c = search rules
+returns-in_err-at c = search rules
 
 pub returns : goal.returns
 unfolding bar_field

@@ -2,13 +2,13 @@ use Rattle.std.proofs.Common.{rules}
 use Rattle.jobgroups.specs.Table.{comma_letter}
 use Rattle.jobgroups.proofs.groups.comma_letter.Goals as goal
 
-pub returns-in-err-at : goal.returns-in-err-at
+pub returns-in_err-at : goal.returns-in_err-at
 unfolding comma_letter
-returns-in-err-at c = search rules
+returns-in_err-at c = search rules
 
-pub returns-in-err-letter : goal.returns-in-err-letter
+pub returns-in_err-letter : goal.returns-in_err-letter
 unfolding comma_letter
-returns-in-err-letter c = search rules
+returns-in_err-letter c = search rules
 
 pub returns : goal.returns
 unfolding comma_letter

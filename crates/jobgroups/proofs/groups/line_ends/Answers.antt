@@ -2,37 +2,37 @@ use Rattle.std.proofs.Common.{rules}
 use Rattle.jobgroups.specs.Table.{line_ends}
 use Rattle.jobgroups.proofs.groups.line_ends.Goals as goal
 
-pub returns-in-err-at : goal.returns-in-err-at
+pub returns-in_err-at : goal.returns-in_err-at
 unfolding line_ends
-returns-in-err-at c = search rules
+returns-in_err-at c = search rules
 
-pub returns-in-err-x : goal.returns-in-err-x
+pub returns-in_err-x : goal.returns-in_err-x
 unfolding line_ends
-returns-in-err-x c = search rules
+returns-in_err-x c = search rules
 
-pub returns-in-err-at-2 : goal.returns-in-err-at-2
+pub returns-in_err-at-2 : goal.returns-in_err-at-2
 unfolding line_ends
-returns-in-err-at-2 c = search rules
+returns-in_err-at-2 c = search rules
 
-pub returns-in-err-y : goal.returns-in-err-y
+pub returns-in_err-y : goal.returns-in_err-y
 unfolding line_ends
-returns-in-err-y c = search rules
+returns-in_err-y c = search rules
 
-pub returns-in-err-at-3 : goal.returns-in-err-at-3
+pub returns-in_err-at-3 : goal.returns-in_err-at-3
 unfolding line_ends
-returns-in-err-at-3 c = search rules
+returns-in_err-at-3 c = search rules
 
-pub returns-in-err-last-x : goal.returns-in-err-last-x
+pub returns-in_err-last_x : goal.returns-in_err-last_x
 unfolding line_ends
-returns-in-err-last-x c = search rules
+returns-in_err-last_x c = search rules
 
-pub returns-in-err-at-4 : goal.returns-in-err-at-4
+pub returns-in_err-at-4 : goal.returns-in_err-at-4
 unfolding line_ends
-returns-in-err-at-4 c = search rules
+returns-in_err-at-4 c = search rules
 
-pub returns-in-err-last-y : goal.returns-in-err-last-y
+pub returns-in_err-last_y : goal.returns-in_err-last_y
 unfolding line_ends
-returns-in-err-last-y c = search rules
+returns-in_err-last_y c = search rules
 
 pub returns : goal.returns
 unfolding line_ends

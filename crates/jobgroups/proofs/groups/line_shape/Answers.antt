@@ -2,21 +2,21 @@ use Rattle.std.proofs.Common.{rules}
 use Rattle.jobgroups.specs.Table.{line_shape}
 use Rattle.jobgroups.proofs.groups.line_shape.Goals as goal
 
-pub returns-in-err-at : goal.returns-in-err-at
+pub returns-in_err-at : goal.returns-in_err-at
 unfolding line_shape
-returns-in-err-at c = search rules
+returns-in_err-at c = search rules
 
-pub returns-in-err-kind : goal.returns-in-err-kind
+pub returns-in_err-kind : goal.returns-in_err-kind
 unfolding line_shape
-returns-in-err-kind c = search rules
+returns-in_err-kind c = search rules
 
-pub returns-in-err-at-2 : goal.returns-in-err-at-2
+pub returns-in_err-at-2 : goal.returns-in_err-at-2
 unfolding line_shape
-returns-in-err-at-2 c = search rules
+returns-in_err-at-2 c = search rules
 
-pub returns-in-err-dots : goal.returns-in-err-dots
+pub returns-in_err-dots : goal.returns-in_err-dots
 unfolding line_shape
-returns-in-err-dots c = search rules
+returns-in_err-dots c = search rules
 
 pub returns : goal.returns
 unfolding line_shape

@@ -2,17 +2,17 @@ use Rattle.std.proofs.Common.{rules}
 use Rattle.jobgroups.specs.Table.{point}
 use Rattle.jobgroups.proofs.groups.point_at.Goals as goal
 
-pub returns-in-err-x : goal.returns-in-err-x
+pub returns-in_err-x : goal.returns-in_err-x
 unfolding point
-returns-in-err-x c = search rules
+returns-in_err-x c = search rules
 
-pub returns-in-err-at : goal.returns-in-err-at
+pub returns-in_err-at : goal.returns-in_err-at
 unfolding point
-returns-in-err-at c = search rules
+returns-in_err-at c = search rules
 
-pub returns-in-err-y : goal.returns-in-err-y
+pub returns-in_err-y : goal.returns-in_err-y
 unfolding point
-returns-in-err-y c = search rules
+returns-in_err-y c = search rules
 
 pub returns : goal.returns
 unfolding point

@@ -2,25 +2,25 @@ use Rattle.std.proofs.Common.{rules}
 use Rattle.jobgroups.specs.Table.{sizes}
 use Rattle.jobgroups.proofs.groups.sizes_at.Goals as goal
 
-pub returns-in-err-pitch : goal.returns-in-err-pitch
+pub returns-in_err-pitch : goal.returns-in_err-pitch
 unfolding sizes
-returns-in-err-pitch c = search rules
+returns-in_err-pitch c = search rules
 
-pub returns-in-err-at : goal.returns-in-err-at
+pub returns-in_err-at : goal.returns-in_err-at
 unfolding sizes
-returns-in-err-at c = search rules
+returns-in_err-at c = search rules
 
-pub returns-in-err-width : goal.returns-in-err-width
+pub returns-in_err-width : goal.returns-in_err-width
 unfolding sizes
-returns-in-err-width c = search rules
+returns-in_err-width c = search rules
 
-pub returns-in-err-at-2 : goal.returns-in-err-at-2
+pub returns-in_err-at-2 : goal.returns-in_err-at-2
 unfolding sizes
-returns-in-err-at-2 c = search rules
+returns-in_err-at-2 c = search rules
 
-pub returns-in-err-length : goal.returns-in-err-length
+pub returns-in_err-length : goal.returns-in_err-length
 unfolding sizes
-returns-in-err-length c = search rules
+returns-in_err-length c = search rules
 
 pub returns : goal.returns
 unfolding sizes
