@@ -4,7 +4,7 @@
 --   after_take, reloaded   the paper then, the stock being given
 --   Stocked           what a printer's stock keeps: worn line is what a take of line leaves, again what a reload leaves
 --   unused n          a new printer with a stock of n
-use Rattle.std.specs.Prelude.{◌≡◌, ℕ, ◌+◌, ◌<◌, ◌≤◌, true, false, cond, List, [], Ok, Err, Result, nat_le}
+use Rattle.std.specs.Prelude.{◌≡◌, ℕ, ◌+◌, ◌<◌, ◌≤◌, cond, List, [], Ok, Err, Result, nat_le}
 use Rattle.limits.specs.Bytes.{between}
 use Rattle.limits.specs.Limits.{longest_line, last_tag}
 use Rattle.printers.specs.declared.fault.PrinterFault.{PrinterFault}

@@ -1,5 +1,5 @@
 -- A roll of tags: each tag taken lowers the stock by one, and a reload brings a full roll, until the last tag of all.
-use Rattle.std.specs.Prelude.{ℕ, ◌-◌, cond, nat_lt}
+use Rattle.std.specs.Prelude.{ℕ, cond, nat_lt}
 use Rattle.limits.specs.Limits.{last_tag}
 use Rattle.printers.specs.Paper.{Paper}
 use Rattle.printers.specs.Tallies.{latest_of}

@@ -54,7 +54,7 @@ impl Printer for Strip {
 
     ghost again = { strip_again };
 
-    ghost stocked = { first_of (Prim.search rules, Prim.grind (arith, Self.row.coded.inj)) };
+    ghost stocked = { Prim.search rules };
 
     fn taken(&self) -> u64 {
         self.tally.taken()
