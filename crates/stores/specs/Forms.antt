@@ -12,13 +12,13 @@
 --   vacant l t      no form at all, with a longest form of l bytes and a total of t
 --   lowered m f     the same forms under a total of at most m
 --   from_one g       forms that are counted from 1, where g counts them from 0
-use Rattle.std.specs.Prelude.{◌≡◌, ℕ, zero, suc, ◌+◌, ◌-◌, ◌≤◌, Bool, true, false, cond, List, ◌++◌, length, drop, Some, None, Ok, Err, Option, Result, ◌==◌, nat_le}
+use Rattle.std.specs.Prelude.{◌≡◌, ℕ, zero, suc, ◌+◌, ◌-◌, ◌≤◌, Bool, false, cond, List, ◌++◌, length, drop, Some, None, Ok, Err, Option, Result, ◌==◌, nat_le}
 use Rattle.limits.specs.Bytes.{between}
 use Rattle.limits.specs.Limits.{last_form, longest_form, largest_total}
 use Rattle.stores.specs.declared.answers.Loaded.{Loaded}
 use Rattle.stores.specs.declared.answers.Loaded.TheVariants.{Nothing, NoRoom, Filled}
 use Rattle.stores.specs.declared.answers.StoreFault.{StoreFault}
-use Rattle.stores.specs.declared.answers.StoreFault.TheVariants.{NoForm, TooLong, Full}
+use Rattle.stores.specs.declared.answers.StoreFault.TheVariants.{TooLong, Full}
 
 pub record Forms : Type 0 where
   pub at : ℕ → Option (List ℕ)

@@ -1,13 +1,13 @@
 -- What holds of the meaning of a packed store.
-use Rattle.std.specs.Prelude.{◌≡◌, ℕ, zero, suc, ◌+◌, ◌-◌, ◌<◌, ◌≤◌, Bool, true, false, cond, List, [], ◌∷◌, ◌++◌, length, take, drop, replicate, Some, None, Option, ◌==◌, slice_index_or, slice_range, slice_set, refl}
-use Rattle.std.proofs.Common.{sym, ap, ◌∙◌, arith, length-take, length-drop, length-append}
+use Rattle.std.specs.Prelude.{◌≡◌, ℕ, zero, suc, ◌+◌, ◌-◌, ◌<◌, ◌≤◌, Bool, true, false, cond, List, ◌++◌, length, take, drop, replicate, Some, None, Option, ◌==◌, slice_index_or, slice_range, slice_set, refl}
+use Rattle.std.proofs.Common.{sym, ap, ◌∙◌, arith, length-take, length-drop}
 use Rattle.std.proofs.Math.Path.{fun_ext}
 use Rattle.std.proofs.lemmas.List.{take_at, drop_at, drop-drop, get_or-set_same, get_or-set_other}
 use Rattle.std.proofs.lemmas.Bool.Decides.{nat_tests}
-use Rattle.stores.specs.Forms.{Forms, Lawful, place_of, size_of, others, from_one, stored, vacant}
+use Rattle.stores.specs.Forms.{Lawful, place_of, others, from_one, stored, vacant}
 use Rattle.stores.specs.Packed.{size_in, size_at, used, before, cut, packed_at, packed_forms, spliced}
 use Rattle.stores.specs.FormLaws.{from_one_at, from_one_none, from_one_sizes, from_one_outside, stored_is, place_some, place_none}
-use Rattle.stores.specs.PackedLaws.{before_more, before_all, before_most, used_set, packed_at_lem, packed_past, packed_size, packed_none, packed_others, packed_put}
+use Rattle.stores.specs.PackedLaws.{before_all, used_set, packed_at_lem, packed_past, packed_size, packed_none, packed_others, packed_put}
 
 -- the form under a number is the one of its entry
 pub packed_here : (ls : List (Option ℕ)) (b : List ℕ) (n p : ℕ) → Some p ≡ place_of n → from_one (packed_at ls b) n ≡ cut (slice_index_or ls p None) (drop (before ls p) b)

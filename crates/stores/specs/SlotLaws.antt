@@ -1,11 +1,11 @@
 -- What holds of the slots of a slot store.
-use Rattle.std.specs.Prelude.{◌≡◌, ℕ, zero, suc, ◌+◌, ◌-◌, ◌<◌, ◌≤◌, Bool, true, false, cond, List, [], ◌∷◌, ◌++◌, length, take, replicate, Some, None, Option, ◌==◌, slice_index_or, slice_set, refl}
+use Rattle.std.specs.Prelude.{◌≡◌, ℕ, zero, suc, ◌+◌, ◌-◌, ◌<◌, ◌≤◌, Bool, true, false, cond, List, [], ◌∷◌, length, take, replicate, Some, None, Option, ◌==◌, slice_index_or, slice_set, refl}
 use Rattle.std.proofs.Common.{sym, ap, ◌∙◌, le_of_suc-le-suc, not-suc-le-zero, arith, length-take}
 use Rattle.std.proofs.Math.Path.{fun_ext}
 use Rattle.std.proofs.Math.Dec.{eqb-zero-suc, eqb-suc-zero, eqb-suc-suc}
 use Rattle.std.proofs.lemmas.Bool.Decides.{nat_tests}
 use Rattle.stores.specs.declared.slot.Slot.{Slot}
-use Rattle.stores.specs.Forms.{Forms, Lawful, place_of, size_of, others, from_one, stored, vacant}
+use Rattle.stores.specs.Forms.{Lawful, place_of, size_of, others, from_one, stored, vacant}
 use Rattle.stores.specs.Slots.{form_of, slot_at, slot_forms}
 use Rattle.stores.specs.FormLaws.{others_below, from_one_at, from_one_none, from_one_sizes, from_one_outside, stored_is, place_some, place_none}
 

@@ -32,6 +32,6 @@ both b x start end all h =
 
 pub returns : goal.returns
 returns c =
-    ap (λ (w : List ℕ). put_mid c.args.at.start (c.args.at.start + length c.args.form.now - c.args.at.start) w c.copy-from-slice.new.self) c.copy-within.ensures.after
-    ∙ ap (put_mid c.args.at.start (c.args.at.start + length c.args.form.now - c.args.at.start) _) c.copy-from-slice.ensures.after
+    ap (λ (w : List ℕ). put_mid c.args.at.start (c.args.at.start + length c.args.form.now - c.args.at.start) w c.copy_from_slice.new.self) c.copy_within.ensures.after
+    ∙ ap (put_mid c.args.at.start (c.args.at.start + length c.args.form.now - c.args.at.start) _) c.copy_from_slice.ensures.after
     ∙ both c.args.bytes.now c.args.form.now c.args.at.start c.args.at.end c.args.at.all (omega arith)

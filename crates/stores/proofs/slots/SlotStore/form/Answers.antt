@@ -2,8 +2,8 @@ use Rattle.std.proofs.Common.{◌≡◌, ℕ, List, Some, None, Option, sym, sub
 use Rattle.stores.specs.SlotLaws.{slots_here, slots_nowhere}
 use Rattle.stores.proofs.slots.SlotStore.form.Goals as goal
 
-pub returns-in-default : goal.returns-in-default
-returns-in-default c = slots_nowhere c.args.self.now.slots c.args.number c.args.self.now.twenty c.in-default.ensures
+pub returns-in_default : goal.returns-in_default
+returns-in_default c = slots_nowhere c.args.self.now.slots c.args.number c.args.self.now.twenty c.in_default.ensures
 
 pub returns : goal.returns
 returns c =

@@ -1,4 +1,4 @@
-use Rattle.std.proofs.Common.{◌-◌, arith}
+use Rattle.std.proofs.Common.{◌-◌}
 use Rattle.stores.specs.FormLaws.{place_is, place_some}
 use Rattle.stores.specs.SlotLaws.{slots_stored, slots_room}
 use Rattle.stores.proofs.slots.SlotStore.replace.Goals as goal

@@ -1,5 +1,5 @@
 use Rattle.std.proofs.Common.{◌≡◌, ℕ, Bool, true, false, cond, leb, List, ◌++◌, length, take, drop, Some, None, Option, sym, refl, ap, ◌∙◌, arith, take_at}
-use Rattle.stores.specs.declared.answers.Loaded.TheVariants.{Filled, Nothing, NoRoom}
+use Rattle.stores.specs.declared.answers.Loaded.TheVariants.{Filled, NoRoom}
 use Rattle.stores.specs.Forms.{Forms, loaded_of, filled_with}
 use Rattle.stores.proofs.cache.page.Page.load.Goals as goal
 

@@ -4,7 +4,7 @@ use seplogic.Ra.Ura.{Ura}
 use mir.Syntax.{Fn, Dict, dcons, dnil, a_type}
 use mir.Val.{Val, vptr, vstruct, vcons, vnil}
 use mir.MapTy.{inst_fn}
-use base.Logic.{SProp, ent, emp, sep, via, fst∗, snd∗}
+use base.Logic.{SProp, ent, emp, via, fst∗, snd∗}
 use base.Fml.{Fml}
 use prog.Memory.{Memory}
 use prog.Routine.{Routine}
