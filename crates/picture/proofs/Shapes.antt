@@ -1,5 +1,5 @@
 -- What a span of dots says of the tenths that it was made from, and a rectangle in four parts.
-use Rattle.std.proofs.Common.{◌≡◌, ℕ, ◌+◌, min, max, Bool, true, false, cond, not, ◌&&◌, ◌||◌, ltb, leb, sym, refl, ap, ◌∙◌, ap₂, arith}
+use Rattle.std.proofs.Common.{◌≡◌, ℕ, ◌+◌, min, max, Bool, true, cond, not, ◌&&◌, ◌||◌, ltb, leb, ap₂, arith}
 use Rattle.std.proofs.lemmas.Bool.Decides.{nat_tests}
 use Rattle.picture.specs.Places.{dot_of, amid, band}
 use Rattle.picture.specs.Spans.{within}

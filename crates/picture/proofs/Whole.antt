@@ -1,12 +1,12 @@
 -- The bytes of a picture whose every dot is known.
-use Rattle.std.proofs.Common.{◌≡◌, ℕ, ◌+◌, ◌-◌, ◌*◌, ◌/◌, ◌%◌, ◌<◌, ◌≤◌, Bool, true, eqb, List, ◌++◌, length, get_or, drop, sym, refl, ap, ◌∙◌, inl, inr, arith}
+use Rattle.std.proofs.Common.{◌≡◌, ℕ, ◌+◌, ◌-◌, ◌*◌, ◌/◌, ◌%◌, ◌<◌, ◌≤◌, Bool, eqb, List, ◌++◌, length, get_or, drop, sym, refl, ap, ◌∙◌, inl, inr, arith}
 use Rattle.std.proofs.lemmas.List.FromFn.{length-map-range_with_len, get_or-map-range_with_len}
 use Rattle.std.proofs.lemmas.List.{same_lists, length-append, length-drop, get_or_append_left, get_or-append_right, get_or-drop, get_or_default}
 use Rattle.std.proofs.lemmas.Bool.{cases_lt, eqb-true}
 use Rattle.picture.specs.Bits.{bit_of}
 use Rattle.picture.specs.Picture.{packed, byte_at, bytes_of}
 use Rattle.picture.specs.Redrawn.{Redrawn}
-use Rattle.picture.proofs.Bytes.{each, each_at}
+use Rattle.picture.proofs.Bytes.{each_at}
 
 -- a byte is told by its eight dots
 by_dots : (b : ℕ) → b < 256 → packed (bit_of b) ≡ b

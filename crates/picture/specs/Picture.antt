@@ -8,7 +8,7 @@
 --   bytes_of n pic                the first n bytes of a picture
 --   too_short dots                the buffer has no room for a picture
 --   shown pic dots               the buffer with the picture at its front; one that is too short stays
-use Rattle.std.specs.Prelude.{ℕ, ◌+◌, Bool, true, false, cond, ◌&&◌, List, [], ◌∷◌, ◌++◌, map, length, drop, nat_lt}
+use Rattle.std.specs.Prelude.{ℕ, ◌+◌, Bool, false, cond, ◌&&◌, List, [], ◌∷◌, ◌++◌, map, length, drop, nat_lt}
 use Rattle.std.specs.List.{range_with_len}
 use Rattle.limits.specs.Limits.{picture_bytes}
 use Rattle.picture.specs.Bits.{row_of, column_of}

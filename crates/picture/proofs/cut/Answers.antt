@@ -18,5 +18,5 @@ margins width long beside below r c dot hb hl hr hc = grind (arith, nat_tests)
 pub returns : goal.returns
 returns c =
     redrawn_as _ _ _ _
-    (λ r k dot hr hk. margins c.args.label-width c.args.label-length c.starting-beside.result c.starting-below.result r k dot c.starting-beside.ensures c.starting-below.ensures hr hk)
-    (redrawn_then _ _ _ _ _ c.fill-box.ensures c.fill-box-2.ensures)
+    (λ r k dot hr hk. margins c.args.label_width c.args.label_length c.starting-beside.result c.starting-below.result r k dot c.starting-beside.ensures c.starting-below.ensures hr hk)
+    (redrawn_then _ _ _ _ _ c.fill_box.ensures c.fill_box-2.ensures)

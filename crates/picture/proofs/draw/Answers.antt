@@ -15,8 +15,8 @@ returns c =
     record {
       answer = sym (cond-false _ _ _ not);
       bytes =
-          whole (picture white c.args.drawings.now c.args.label-width c.args.label-length) dots c.cut.new.dots 21600 refl long same
-          (λ k. (c.type-inv.dots k).fits)
-          (redrawn_then _ _ _ _ _ (redrawn_then _ _ _ _ _ c.whiten.ensures c.draw-all.ensures) c.cut.ensures)
+          whole (picture white c.args.drawings.now c.args.label_width c.args.label_length) dots c.cut.new.dots 21600 refl long same
+          (λ k. (c.type_inv.dots k).fits)
+          (redrawn_then _ _ _ _ _ (redrawn_then _ _ _ _ _ c.whiten.ensures c.draw_all.ensures) c.cut.ensures)
           ∙ sym (cond-false _ _ _ not);
     }

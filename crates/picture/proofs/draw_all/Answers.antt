@@ -1,4 +1,4 @@
-use Rattle.std.proofs.Common.{◌<◌, ◌≤◌, length, ap, arith}
+use Rattle.std.proofs.Common.{ap}
 use Rattle.std.proofs.lemmas.List.{take_all}
 use Rattle.picture.specs.Picture.{drawn}
 use Rattle.picture.proofs.Drawn.{drawn_more}
@@ -8,7 +8,7 @@ use Rattle.picture.proofs.draw_all.Goals as goal
 pub loop-drawing-preserved : goal.loop-drawing-preserved
 loop-drawing-preserved c =
     redrawn_as _ _ _ _ (λ r k dot hr hk. drawn_more c.args.drawings.now c.loop-drawing.drawing-index _ r k dot c.loop-drawing-test.true)
-    (redrawn_then _ _ _ _ _ c.loop-drawing.invariant c.draw-one.ensures)
+    (redrawn_then _ _ _ _ _ c.loop-drawing.invariant c.draw_one.ensures)
 
 pub returns : goal.returns
 returns c =

@@ -13,7 +13,7 @@ returns-in-Level c =
     (λ r k dot hr hk.
     ap₂ (λ x y. inked Black (x && y) dot) (band_is c.band.result _ _ c.band.ensures r) (between_is c.between.result _ _ c.between.ensures k)
     ∙ ap (λ d. acts d r k dot) (sym c.in-Level.is))
-    c.fill-box.ensures
+    c.fill_box.ensures
 
 pub returns-in-Upright : goal.returns-in-Upright
 returns-in-Upright c =
@@ -22,7 +22,7 @@ returns-in-Upright c =
     ap₂ (λ x y. inked Black (x && y) dot) (between_is c.between-in-Upright.result _ _ c.between-in-Upright.ensures r)
     (band_is c.band-in-Upright.result _ _ c.band-in-Upright.ensures k)
     ∙ ap (λ d. acts d r k dot) (sym c.in-Upright.is))
-    c.fill-box-in-Upright.ensures
+    c.fill_box-in-Upright.ensures
 
 pub returns-in-Clear : goal.returns-in-Clear
 returns-in-Clear c =
@@ -31,7 +31,7 @@ returns-in-Clear c =
     ap₂ (λ x y. inked White (x && y) dot) (between_is c.between-in-Clear.result _ _ c.between-in-Clear.ensures r)
     (between_is c.between-in-Clear-2.result _ _ c.between-in-Clear-2.ensures k)
     ∙ ap (λ d. acts d r k dot) (sym c.in-Clear.is))
-    c.fill-box-in-Clear.ensures
+    c.fill_box-in-Clear.ensures
 
 pub returns-in-Invert : goal.returns-in-Invert
 returns-in-Invert c =
@@ -40,4 +40,4 @@ returns-in-Invert c =
     ap₂ (λ x y. inked Flip (x && y) dot) (between_is c.between-in-Invert.result _ _ c.between-in-Invert.ensures r)
     (between_is c.between-in-Invert-2.result _ _ c.between-in-Invert-2.ensures k)
     ∙ ap (λ d. acts d r k dot) (sym c.in-Invert.is))
-    c.fill-box-in-Invert.ensures
+    c.fill_box-in-Invert.ensures

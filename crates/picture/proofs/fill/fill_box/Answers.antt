@@ -1,4 +1,4 @@
-use Rattle.std.proofs.Common.{◌≡◌, ◌<◌, ◌≤◌, min, sym, ap, ◌∙◌, arith}
+use Rattle.std.proofs.Common.{◌<◌, ◌≤◌, sym, ap, ◌∙◌, arith}
 use Rattle.picture.proofs.Rows.{inked_none, redrawn_as, redrawn_then, redrawn_none, row_more, rows_none, rows_all}
 use Rattle.picture.specs.Inks.{inked}
 use Rattle.picture.proofs.fill.fill_box.Goals as goal
@@ -12,7 +12,7 @@ loop-row-preserved c =
     let low : c.args.rows.from ≤ c.loop-row.row = omega arith in
     let high : c.loop-row.row < c.min-row-end.result = omega arith in
     redrawn_as _ _ _ _ (λ r k dot hr hk. row_more c.args.ink c.args.rows.from c.min-row-end.result c.args.columns c.loop-row.row r k dot low high)
-    (redrawn_then _ _ _ _ _ c.loop-row.invariant c.fill-row.ensures)
+    (redrawn_then _ _ _ _ _ c.loop-row.invariant c.fill_row.ensures)
 
 pub returns : goal.returns
 returns c =

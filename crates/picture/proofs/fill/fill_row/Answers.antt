@@ -1,4 +1,4 @@
-use Rattle.std.proofs.Common.{◌+◌, ◌*◌, ◌<◌, ◌≤◌, min, length, ap, arith}
+use Rattle.std.proofs.Common.{◌+◌, ◌*◌, ◌≤◌, min, ap, arith}
 use Rattle.picture.proofs.Rows.{byte_more, redrawn_as, row_all}
 use Rattle.picture.specs.Inks.{inked}
 use Rattle.picture.proofs.fill.fill_row.Goals as goal
