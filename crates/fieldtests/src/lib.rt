@@ -47,9 +47,9 @@ mod tests {
             Ok(())
         );
         assert_eq!(rt; fields.set_links(&[a, b]), Ok(()));
-        assert!(rt; fields.texts()[0].text().as_bytes() == b"BA");
+        assert!(rt; fields.texts()[0].text().as_bytes() == b"BA".as_slice());
         assert_eq!(rt; fields.set_links(&[a]), Ok(()));
-        assert!(rt; fields.texts()[0].text().as_bytes() == b"A");
+        assert!(rt; fields.texts()[0].text().as_bytes() == b"A".as_slice());
         assert_eq!(rt; fields.set_links(&[]), Ok(()));
         assert!(rt; fields.texts()[0].text().is_empty());
         Ok(())
@@ -115,10 +115,10 @@ mod tests {
         );
         let mut work = [b'.'; LONGEST_LINE];
         assert_eq!(rt; write_line(&fields, 1, 2, &mut work), Some(30));
-        assert!(rt; &work[0..31] == b"0001,0002,T01,0100,0050,  413\n.");
+        assert!(rt; &work[0..31] == b"0001,0002,T01,0100,0050,  413\n.".as_slice());
         fields.clear_texts();
         assert_eq!(rt; write_line(&fields, 1, 2, &mut work), Some(10));
-        assert!(rt; &work[0..11] == b"0001,0002\nT");
+        assert!(rt; &work[0..11] == b"0001,0002\nT".as_slice());
         Ok(())
     }
 }
