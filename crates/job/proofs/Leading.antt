@@ -1,5 +1,5 @@
 -- Letters at the front of bytes, one byte on.
-use Rattle.std.proofs.Common.{◌≡◌, ℕ, ◌+◌, ◌<◌, ◌≤◌, Bool, true, false, cond, eqb, List, [], ◌∷◌, length, get_or, drop, Some, ap, ◌∙◌}
+use Rattle.std.proofs.Common.{◌≡◌, ℕ, ◌+◌, ◌<◌, ◌≤◌, true, false, cond, eqb, List, ◌∷◌, length, get_or, drop, Some, ap, ◌∙◌}
 use Rattle.std.proofs.lemmas.List.{at_drop_more, drop_more, drop_all}
 use Rattle.jobgroups.specs.Table.{letters_of}
 use Rattle.jobgroups.specs.declared.letters.Letters.{Letters}

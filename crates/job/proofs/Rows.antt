@@ -1,9 +1,9 @@
 -- A row of the table, one group on, and at its end.
-use Rattle.std.proofs.Common.{◌≡◌, ℕ, List, [], ◌∷◌, ◌++◌, Ok, Err, Result, sym, ap}
+use Rattle.std.proofs.Common.{◌≡◌, ℕ, List, [], ◌∷◌, ◌++◌, Ok, sym, ap}
 use Rattle.jobparts.specs.Grammar.{Item, group_at, row_at}
 use Rattle.jobparts.specs.Items.{end_at}
 use Rattle.jobparts.specs.Slots.{Slot, then}
-use Rattle.jobgroups.specs.Commands.{Plain, command_at}
+use Rattle.jobgroups.specs.Commands.{command_at}
 use Rattle.jobgroups.specs.Table.{parts_of}
 use Rattle.jobgroups.specs.declared.letters.Letters.{Letters}
 

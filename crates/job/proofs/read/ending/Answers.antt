@@ -5,6 +5,6 @@ use Rattle.job.proofs.read.ending.Goals as goal
 
 pub returns : goal.returns
 returns c =
-    let long : length c.first-window.result.now ≡ min 255 (length c.rest-at.result.now) = ap length c.first-window.ensures ∙ length-take 255 c.rest-at.result.now in
-    let stands = stands_within (eqb 0) c.first-window.result.now (c.count-before-line.result + 1) c.if-not-stands-at.ensures in
+    let long : length c.first-window.result.now ≡ min 255 (length c.rest_at.result.now) = ap length c.first-window.ensures ∙ length-take 255 c.rest_at.result.now in
+    let stands = stands_within (eqb 0) c.first-window.result.now (c.count_before-line.result + 1) c.if-not-stands_at.ensures in
     record { answer = search rules; within = omega arith }
