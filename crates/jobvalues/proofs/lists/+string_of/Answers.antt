@@ -1,4 +1,4 @@
-use Rattle.std.proofs.Common.{◌≡◌, ℕ, zero, suc, ◌+◌, ◌-◌, ◌<◌, List, drop, sym, refl, ap, ◌∙◌, arith, rules}
+use Rattle.std.proofs.Common.{◌≡◌, ℕ, zero, suc, ◌+◌, ◌-◌, ◌<◌, List, drop, sym, ap, ◌∙◌, arith, rules}
 use Rattle.job.specs.Reading.{before}
 use Rattle.jobvalues.specs.Meaning.{string_of}
 use Rattle.jobvalues.proofs.lists.+string_of.Goals as goal
@@ -10,6 +10,6 @@ string_more (suc k) bs lt = ap (λ n. string_of n (drop (before 44 bs + 1) bs)) 
 pub returns : goal.returns
 returns t c =
     let strings = c.args.strings.now in
-    let rest = c.rest-at.ensures.bytes ∙ ap (λ n. drop (n + 1) strings) c.count-before-end.ensures.count in
+    let rest = c.rest_at.ensures.bytes ∙ ap (λ n. drop (n + 1) strings) c.count_before-end.ensures.count in
     let some : 0 < c.args.k = search rules in
-    c.string-of.ensures ∙ ap (string_of (c.args.k - 1)) rest ∙ sym (string_more c.args.k strings some)
+    c.string_of.ensures ∙ ap (string_of (c.args.k - 1)) rest ∙ sym (string_more c.args.k strings some)
