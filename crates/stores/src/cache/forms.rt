@@ -44,7 +44,7 @@ impl<S: FormStore> ReadCache<S> {
 impl<S: FormStore> FormStore for ReadCache<S> {
     ghost forms = { λ c. S.FormStore.forms c.page.below };
 
-    ghost lawful = { first_of (Prim.search rules, Prim.grind (arith, Self.row.coded.inj)) };
+    ghost lawful = { Prim.search rules };
 
     fn size(&self, number: u8) -> Option<usize> {
         self.page.below().size(number)
