@@ -1,6 +1,6 @@
 // Turning the faults of lower layers into a blame.
 ghost use Rattle.std.specs.Prelude.{◌≡◌};
-ghost use Rattle.job.specs.Reading.{refusal_of as readRefusal};
+ghost use Rattle.job.specs.Reading.{refusal_of as read_refusal};
 ghost use Rattle.label.specs.Labels.{refusal_of};
 
 use super::{At, Blame};
@@ -10,7 +10,7 @@ use label::fault::LabelFault;
 
 // A command that cannot be read is blamed at the place that the reader tells.
 impl From<At<ReadFault>> for Blame {
-    ghost from_gives = { λ e r. r ≡ record { refusal = readRefusal e.why.refusal; form = e.form; place = e.why.place } };
+    ghost from_gives = { λ e r. r ≡ record { refusal = read_refusal e.why.refusal; form = e.form; place = e.why.place } };
 
     fn from(e: At<ReadFault>) -> Blame {
         Blame {

@@ -9,8 +9,8 @@ behind b last post s from to le e at =
     let long : length (take from b ++ last) ≡ to = length-append (take from b) last ∙ omega (arith, length-take-le from b le, ap length e) in
     ap (take to) (sym (append_assoc (take from b) last post)) ∙ take_at (take from b ++ last) post to long ∙ ap (λ l. take from b ++ l) e
 
-pub invariant-of-self : goal.invariant-of-self
-invariant-of-self c = (search (rules, places), (omega arith, tt))
+pub invariant_of-self : goal.invariant_of-self
+invariant_of-self c = record { sized = search (rules, places); within = omega arith }
 
 pub returns : goal.returns
 returns c =
@@ -19,5 +19,5 @@ returns c =
     let long = length-take-le d.len d.bytes le in
     record {
       room = grind (arith, nat_tests);
-      after = behind d.bytes _ _ c.args.command.now d.len _ le c.copy-from-slice.ensures.after refl;
+      after = behind d.bytes _ _ c.args.command.now d.len _ le c.copy_from_slice.ensures.after refl;
     }

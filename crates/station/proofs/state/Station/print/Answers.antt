@@ -14,16 +14,16 @@ returns g c =
     let left = c.in-Owing.issue.left in
     let size = c.in-Owing.issue.size in
     let line = tag_line v left size in
-    let out = c.write-line.new.work in
+    let out = c.write_line.new.work in
     let n = c.in-Some.n in
     let w = c.in-Some.ensures in
     let handed : take (n - 0) out ≡ line = front line out work n w.0 w.1 in
     let stock = g.P.Printer.worn self.printer (take (n - 0) out) in
-    let ok : is_err c.take.result ≡ false = sym c.is-err.ensures.value ∙ c.if-is-err.false in
+    let ok : is_err c.take.result ≡ false = sym c.is_err.ensures.value ∙ c.if-is_err.false in
     let paper : g.P.Printer.paper c.take.new.self ≡ taken v.paper line stock = c.take.ensures.after ∙ took c.take.result v.paper (take (n - 0) out) line stock ok handed in
     let kept = g.met.P.Printer.stocked self.printer in
-    let u = seen_as v (g.P.Printer.paper c.take.new.self) (seen_label c.turn.new.self) (doing_of c.one-less-self.result self.draft) in
-    let room : ltb (length work) work_bytes ≡ false = let h = c.if-work-lt-WORK-BYTES.false in grind (arith, nat_tests) in
+    let u = seen_as v (g.P.Printer.paper c.take.new.self) (seen_label c.turn.new.self) (doing_of c.one_less-self.result self.draft) in
+    let room : ltb (length work) work_bytes ≡ false = let h = c.if-work-lt-WORK_BYTES.false in grind (arith, nat_tests) in
     let some : eqb v.paper.left 0 ≡ false = let h = c.if-left-eq0.false in let k = c.left.ensures in grind (arith, nat_tests) in
     let t : Tagged v u left size work out n stock =
     record {
@@ -32,7 +32,7 @@ returns g c =
       stocked = some;
       long = w.0;
       written = w.1;
-      after = built v left size _ _ _ _ paper c.turn.ensures (c.one-less-self.ensures self.draft);
+      after = built v left size _ _ _ _ paper c.turn.ensures (c.one_less-self.ensures self.draft);
       falls = kept.falls (take (n - 0) out);
       never_rises = kept.never_rises (take (n - 0) out);
     }
