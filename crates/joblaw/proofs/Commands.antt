@@ -1,11 +1,11 @@
 -- A whole command in a job, and alone.
-use Rattle.std.proofs.Common.{◌≡◌, ℕ, zero, suc, ◌+◌, ◌-◌, ◌<◌, ◌≤◌, Bool, true, false, cond, eqb, ltb, List, [], ◌∷◌, ◌++◌, length, get_or, take, drop, Ok, Err, Result, sym, refl, ap, ◌∙◌, add-zero, arith}
-use lib.Seq.{drop-append_seam, take-append-add, take-append-le}
-use Rattle.std.proofs.lemmas.List.{append-nil, length-append, get_or-append-add, get_or_append_left}
+use Rattle.std.proofs.Common.{◌≡◌, ℕ, zero, suc, ◌+◌, ◌-◌, ◌<◌, ◌≤◌, Bool, true, false, cond, eqb, List, [], ◌∷◌, ◌++◌, length, get_or, take, Ok, Err, Result, sym, refl, ap, ◌∙◌, add-zero, arith}
+use Rattle.std.proofs.Math.Seq.{drop-append_seam, take-append-add}
+use Rattle.std.proofs.lemmas.List.{append-nil, length-append, take-append-le, get_or-append-add, get_or_append_left}
 use Rattle.std.proofs.lemmas.Bool.{le-ltb, lt-ltb, eq-eqb, cond-true, cond-false}
 use Rattle.limits.specs.Limits.{longest_job, longest_command}
 use Rattle.jobparts.specs.Kinds.{stands}
-use Rattle.jobparts.specs.declared.part.ReadRefusal.TheVariants.{OutOfBounds, AtEnd, NoEscape, NoEnding}
+use Rattle.jobparts.specs.declared.part.ReadRefusal.TheVariants.{NoEnding}
 use Rattle.jobparts.specs.declared.part.Wrong.{Wrong}
 use Rattle.jobgroups.specs.Commands.{Plain}
 use Rattle.job.specs.Reading.{before, fault, next_escape, open_at, begin_at, window, ending_at, then_read, placed, body_at, read_at}

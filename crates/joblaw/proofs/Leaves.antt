@@ -1,16 +1,16 @@
 -- What is taken at a place, behind other bytes, is taken as well at that place moved by as many.
-use Rattle.std.proofs.Common.{◌≡◌, ℕ, zero, suc, ◌+◌, ◌-◌, Bool, true, false, cond, eqb, ltb, leb, List, [], ◌∷◌, ◌++◌, map, length, get_or, take, drop, Ok, Err, Result, sym, refl, ap, ◌∙◌, add_assoc, arith}
-use lib.Seq.{drop-append-add}
+use Rattle.std.proofs.Common.{◌≡◌, ℕ, ◌+◌, Bool, true, false, cond, eqb, ltb, leb, List, [], ◌∷◌, ◌++◌, map, length, get_or, take, drop, Ok, Err, Result, sym, refl, ap, ◌∙◌, add_assoc, arith}
+use Rattle.std.proofs.Math.Seq.{drop-append-add}
 use Rattle.std.proofs.lemmas.List.{get_or-append-add, length-append}
 use Rattle.std.proofs.lemmas.Bool.Decides.{nat_tests}
 use Rattle.limits.specs.Bytes.{between}
-use Rattle.jobparts.specs.Items.{byte_at, end_at, admitted_at, part_at, own, number_at, chosen_at, Admits}
+use Rattle.jobparts.specs.Items.{byte_at, part_at, own, number_at}
 use Rattle.jobparts.specs.Kinds.{run, stands}
-use Rattle.jobparts.specs.Slots.{Slot, missing, given, linked, Got, bytes_of, then, wrong_byte, not_admitted}
+use Rattle.jobparts.specs.Slots.{Slot, missing, given, linked, bytes_of, then, wrong_byte, not_admitted}
 use Rattle.jobparts.specs.Values.{number_of}
 use Rattle.jobparts.specs.declared.part.Kind.{Kind}
 use Rattle.jobparts.specs.declared.part.Wrong.{Wrong}
-use Rattle.joblaw.specs.Located.{shift_slot, shift_got, shift_wrong, moved}
+use Rattle.joblaw.specs.Located.{shift_slot, shift_got, moved}
 
 pub moved_cond : {X : Type 0} (f : X → X) (s : ℕ) (t : Bool) (x y : Result X Wrong) → moved f s (cond t x y) ≡ cond t (moved f s x) (moved f s y)
 moved_cond f s true x y = refl

@@ -1,16 +1,16 @@
 -- Texts, lists, options and sources, moved like the smaller things that they are made of.
-use Rattle.std.proofs.Common.{◌≡◌, ℕ, zero, suc, ◌+◌, ◌-◌, Bool, true, false, cond, eqb, ltb, leb, List, [], ◌∷◌, ◌++◌, map, length, get_or, take, drop, Ok, Err, Result, sym, refl, ap, ◌∙◌, add_assoc, arith}
-use lib.Seq.{drop-append-add}
+use Rattle.std.proofs.Common.{◌≡◌, ℕ, zero, suc, ◌+◌, ◌-◌, Bool, cond, eqb, ltb, leb, List, [], ◌∷◌, ◌++◌, map, length, take, drop, Ok, Err, Result, sym, refl, ap, ◌∙◌, add_assoc, arith}
+use Rattle.std.proofs.Math.Seq.{drop-append-add}
 use Rattle.limits.specs.Limits.{longest_text}
 use Rattle.jobparts.specs.Items.{end_at, admitted_at, part_at, own, number_at, chosen_at, Admits, text_stop, span, text_at, stopped_at, string_at, link_at, element_at, list_at, list_part_at, left_out, lettered_at, signed_at, as_links, source_at}
 use Rattle.jobparts.specs.Kinds.{run, stands, is_sign}
-use Rattle.jobparts.specs.Slots.{Slot, missing, given, linked, Got, bytes_of, then, wrong_byte, not_admitted}
+use Rattle.jobparts.specs.Slots.{Slot, missing, given, linked, then, wrong_byte, not_admitted}
 use Rattle.jobparts.specs.declared.part.Kind.{Kind}
 use Rattle.jobparts.specs.declared.part.Kind.TheVariants.{Digit, Text}
 use Rattle.jobparts.specs.declared.part.List.{List as Listed}
 use Rattle.jobparts.specs.declared.part.List.TheVariants.{Strings, Numbers}
 use Rattle.jobparts.specs.declared.part.Wrong.{Wrong}
-use Rattle.joblaw.specs.Located.{shift_slot, shift_got, shift_wrong, moved}
+use Rattle.joblaw.specs.Located.{shift_slot, shift_got, moved}
 use Rattle.joblaw.proofs.Leaves.{moved_cond, then_moved, stands_moved, order_moved, own_same, part_moves, number_moves}
 
 pub cond_moved : {X : Type 0} (f : X → X) (s : ℕ) (t t' : Bool) (x x' y y' : Result X Wrong) → t' ≡ t → x' ≡ moved f s x → y' ≡ moved f s y → cond t' x' y' ≡ moved f s (cond t x y)

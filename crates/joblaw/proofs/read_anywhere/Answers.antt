@@ -1,4 +1,4 @@
-use Rattle.std.proofs.Common.{◌≡◌, ◌++◌, sym, ap, ◌∙◌}
+use Rattle.std.proofs.Common.{◌++◌, sym, ap, ◌∙◌}
 use Rattle.job.specs.Reading.{read_at, answer_of}
 use Rattle.joblaw.specs.Located.{shifted}
 use Rattle.joblaw.proofs.Commands.{anywhere}
