@@ -2,7 +2,7 @@
 --   Figure      two lists of numbers that are to be equal
 --   figures     the table
 --   AllHold fs  the two of each figure are equal
-use Rattle.std.specs.Prelude.{◌≡◌, ℕ, List, [], ◌∷◌, pos, negsuc, Some, None, codes}
+use Rattle.std.specs.Prelude.{◌≡◌, ℕ, List, [], ◌∷◌, pos, negsuc, Some, codes}
 use Rattle.fields.specs.Linking.{joined_text}
 use Rattle.picture.specs.Places.{dot_of}
 use Rattle.texts.specs.Checks.{check_character}
