@@ -1,12 +1,11 @@
 -- The steps of a job are calls of a run, so what holds throughout runs holds throughout jobs.
-use Rattle.std.proofs.Common.{◌≡◌, ℕ, ◌+◌, ◌≤◌, Bool, true, false, List, [], ◌∷◌, ◌++◌, length, Some, None, Ok, Err, Option, Result, sym, refl, ap, ◌∙◌, subst, arith}
+use Rattle.std.proofs.Common.{◌≡◌, ℕ, ◌+◌, ◌≤◌, Bool, true, false, List, [], ◌∷◌, ◌++◌, length, Some, None, Ok, Err, Option, Result, sym, refl, ap, subst, arith}
 use mathlib.Core.Path.{subst⁻¹}
 use Rattle.faults.specs.declared.Fault.{Fault}
 use Rattle.texts.specs.Wheels.{Wheels}
 use Rattle.jobgroups.specs.Commands.{Plain}
 use Rattle.stores.specs.Forms.{Forms}
 use Rattle.printers.specs.Paper.{Paper}
-use Rattle.label.specs.Actions.{Action}
 use Rattle.station.specs.Reads.{read_at, Misread}
 use Rattle.station.specs.Requests.{Request, on_label, issue, begin_saving, end_saving, recall, empty_store, tell_status, reset, request_of}
 use Rattle.station.specs.Steps.{Call, command, print, reload, Step, whole_at, print_fault, most_ordered}
@@ -14,9 +13,8 @@ use Rattle.station.specs.Views.{View, made}
 use Rattle.ledger.specs.Ledgers.{Form, Ledger, opened, feed, noted, label_noted, end_noted, recall_noted, read_noted}
 use Rattle.ledger.specs.Laws.{Event, Run, fed}
 use Rattle.ledger.proofs.Bond.{Bound, tied_step, tied_made}
-use Rattle.ledger.proofs.Readers.{Reader}
 use Rattle.ledger.proofs.Reading.{reader}
-use Rattle.jobrun.specs.Turns.{Moment, Taken, Sent, Again, Sending, TurnedBy, Turned, is_out, with_view}
+use Rattle.jobrun.specs.Turns.{Moment, Taken, Again, Sending, TurnedBy, Turned, is_out, with_view}
 use Rattle.jobrun.specs.Jobs.{tag_in, tags_in, Turns, place_after, is_last}
 use Rattle.jobrun.specs.declared.turn.Turn.{Turn}
 use Rattle.jobrun.specs.declared.turn.Turn.TheVariants.{Tag, Done, Refused, Ended, Spent}

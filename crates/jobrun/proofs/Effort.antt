@@ -4,20 +4,20 @@ use Rattle.faults.specs.declared.Fault.{Fault}
 use Rattle.texts.specs.Wheels.{Wheels}
 use Rattle.stores.specs.Forms.{Forms}
 use Rattle.printers.specs.Paper.{Paper}
-use Rattle.station.specs.Steps.{print_fault, PrintedIn, Printed, Reloaded, one_less}
+use Rattle.station.specs.Steps.{print_fault, PrintedIn, one_less}
 use Rattle.station.specs.Views.{Doing, idle, saving, owing, View, made, owed_in, owed_by}
-use Rattle.ledger.specs.Ledgers.{Ledger, opened}
+use Rattle.ledger.specs.Ledgers.{opened}
 use Rattle.ledger.specs.Laws.{Accounted}
 use Rattle.ledger.proofs.Basics.{never, at_most, more_than}
-use Rattle.ledger.proofs.Bond.{Bound, Ties}
+use Rattle.ledger.proofs.Bond.{Ties}
 use Rattle.ledger.proofs.Reading.{reader}
 use Rattle.ledger.proofs.Runs.{whole_run, at_end}
-use Rattle.jobrun.specs.Turns.{Moment, Taken, Again, Sending, TurnedBy, Turned, is_out, with_view}
+use Rattle.jobrun.specs.Turns.{Moment, Again, Sending, TurnedBy, Turned, is_out}
 use Rattle.jobrun.specs.Jobs.{place_after, is_last}
 use Rattle.jobrun.specs.declared.turn.Turn.{Turn}
 use Rattle.jobrun.specs.declared.turn.Turn.TheVariants.{Tag, Done, Refused, Ended, Spent}
 use Rattle.jobrun.proofs.Calls.{Calls, ledger_so_far, bound_so_far}
-use Rattle.jobrun.proofs.Going.{Onward, accepted_on, refused_on}
+use Rattle.jobrun.proofs.Going.{accepted_on, refused_on}
 
 -- the job's bytes that are left, each worth more than any issue, and the labels that are owed
 abbrev pub effort : List ℕ → ℕ → View → ℕ

@@ -1,6 +1,5 @@
 -- A job goes on: unless it ends the job, a command call tells a place behind its own.
-use Rattle.std.proofs.Common.{◌≡◌, ℕ, ◌+◌, ◌<◌, ◌≤◌, Bool, true, false, cond, eqb, ltb, leb, List, length, get_or, take, Ok, Err, Result, sym, refl, ap, ◌∙◌, subst, arith}
-use Rattle.faults.specs.Numbers.{number_of}
+use Rattle.std.proofs.Common.{◌≡◌, ℕ, ◌+◌, ◌<◌, ◌≤◌, Bool, true, false, cond, eqb, ltb, List, length, get_or, take, Ok, Err, Result, sym, refl, ap, ◌∙◌, subst, arith}
 use Rattle.faults.specs.declared.Fault.{Fault}
 use Rattle.faults.specs.declared.Refusal.TheVariants.{ShortBuffer}
 use Rattle.limits.specs.Limits.{longest_job}
@@ -8,7 +7,7 @@ use Rattle.jobparts.specs.Kinds.{stands}
 use Rattle.jobparts.specs.declared.part.Wrong.{Wrong}
 use Rattle.jobparts.specs.declared.part.ReadRefusal.TheVariants.{OutOfBounds, AtEnd, NoEscape, NoEnding}
 use Rattle.jobgroups.specs.Commands.{Plain}
-use Rattle.job.specs.Reading.{refusal_of, fault_of, answer_of, next_of, then_read, fault, next_escape, placed, body_at, before, window, read_at as readerAt}
+use Rattle.job.specs.Reading.{fault_of, answer_of, next_of, then_read, fault, next_escape, placed, body_at, before, window, read_at as readerAt}
 use Rattle.job.specs.declared.fault.ReadFault.{ReadFault}
 use Rattle.station.specs.Reads.{read_at, next_at, out_of_bounds}
 use Rattle.station.specs.Steps.{commanded, on_read, concluded, short_buffers, fault_at}

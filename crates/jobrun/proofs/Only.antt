@@ -1,5 +1,5 @@
 -- A job has one outcome: its steps do not depend on how much stock a printer has.
-use Rattle.std.proofs.Common.{◌≡◌, ℕ, ◌+◌, ◌<◌, ◌≤◌, Bool, true, false, cond, eqb, ltb, List, [], ◌∷◌, length, Some, None, Ok, Err, Option, Result, sym, refl, ap, ◌∙◌, subst, ap₂, arith}
+use Rattle.std.proofs.Common.{◌≡◌, ℕ, ◌+◌, ◌<◌, Bool, true, false, cond, eqb, ltb, List, [], ◌∷◌, length, Some, None, Ok, Err, Result, sym, refl, ap, ◌∙◌, subst, ap₂, arith}
 use mathlib.Core.Path.{subst⁻¹}
 use Rattle.std.proofs.lemmas.Bool.Decides.{nat_tests}
 use Rattle.faults.specs.declared.Fault.{Fault}
@@ -8,15 +8,15 @@ use Rattle.limits.specs.Limits.{last_tag}
 use Rattle.texts.specs.Wheels.{Wheels}
 use Rattle.stores.specs.Forms.{Forms}
 use Rattle.printers.specs.Paper.{Paper, unused}
-use Rattle.station.specs.Steps.{commanded, answer_after, work_after, work_bytes, fault_at, short_buffers, owed_fault, stock_fault, print_fault, Printed, PrintedIn, printed, line_in, next_line, print_work, Reloaded, most_ordered}
-use Rattle.station.specs.Views.{Doing, idle, saving, owing, View, made, owed_by, owed_in, with_paper}
-use Rattle.ledger.proofs.Basics.{never, not_none, not_ok, ok_inj, some_inj, above_zero}
+use Rattle.station.specs.Steps.{commanded, answer_after, work_after, work_bytes, fault_at, owed_fault, print_fault, PrintedIn, printed, line_in, next_line, print_work, most_ordered}
+use Rattle.station.specs.Views.{Doing, idle, saving, owing, View, made, owed_in}
+use Rattle.ledger.proofs.Basics.{never, not_none, not_ok, ok_inj}
 use Rattle.jobrun.specs.Turns.{Moment, Taken, Sent, Again, Sending, TurnedBy, Turned, with_view, ends}
-use Rattle.jobrun.specs.Jobs.{is_last, place_after, tag_in, Turns, Worked}
+use Rattle.jobrun.specs.Jobs.{is_last, place_after, tag_in, Turns}
 use Rattle.jobrun.specs.Outcomes.{unprinted, Same, OneOutcome}
 use Rattle.jobrun.specs.declared.turn.Turn.{Turn}
 use Rattle.jobrun.specs.declared.turn.Turn.TheVariants.{Tag, Done, Refused, Ended, Spent}
-use Rattle.jobrun.proofs.Calls.{Calls, step_calls, calls_append, ledger_so_far, bound_so_far}
+use Rattle.jobrun.proofs.Calls.{Calls, step_calls, calls_append, bound_so_far}
 use Rattle.jobrun.proofs.Going.{err_inj}
 use Rattle.jobrun.proofs.Unprinted.{set_aside, commanded_aside, answer_aside, answer_short, work_aside}
 

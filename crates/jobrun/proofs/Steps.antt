@@ -1,5 +1,5 @@
 -- One step more of a job on a new station: the count fits, less is left to do, and the ledger accounts for it.
-use Rattle.std.proofs.Common.{◌≡◌, ℕ, ◌+◌, ◌<◌, ◌≤◌, true, false, List, [], ◌∷◌, ◌++◌, sym, refl, ap, ◌∙◌, subst, arith}
+use Rattle.std.proofs.Common.{◌≡◌, ℕ, ◌+◌, ◌<◌, ◌≤◌, true, false, List, [], ◌∷◌, ◌++◌, refl, subst, arith}
 use mathlib.Core.Path.{subst⁻¹}
 use Rattle.texts.specs.Wheels.{Wheels}
 use Rattle.stores.specs.Forms.{Forms}

@@ -6,9 +6,7 @@ use Rattle.limits.specs.Limits.{longest_form}
 use Rattle.jobgroups.specs.Commands.{Plain}
 use Rattle.stores.specs.Forms.{put_answer}
 use Rattle.stores.specs.declared.answers.StoreFault.{StoreFault}
-use Rattle.label.specs.Actions.{Action}
 use Rattle.label.specs.Labels.{LabelSeen, label_refusal}
-use Rattle.label.specs.declared.fault.LabelFault.{LabelFault}
 use Rattle.station.specs.Reads.{read_at, next_at, out_of_bounds, Misread}
 use Rattle.station.specs.Recalls.{acted, commands_of, done_all}
 use Rattle.station.specs.Requests.{Request, on_label, issue, begin_saving, end_saving, recall, empty_store, tell_status, reset, request_of}

@@ -2,7 +2,7 @@
 --   Same d e          the moments d and e show the same but for the printer's paper
 --   OneOutcome        whatever a printer's stock does, two ways to work through one job on a new station make the same steps, and
 --                     leave the same in the station and in the buffers; the printer has to be far enough from its last tag
-use Rattle.std.specs.Prelude.{◌≡◌, ℕ, ◌+◌, ◌<◌, List, []}
+use Rattle.std.specs.Prelude.{◌≡◌, ℕ, ◌+◌, ◌<◌, List}
 use Rattle.limits.specs.Limits.{last_tag}
 use Rattle.texts.specs.Wheels.{Wheels}
 use Rattle.stores.specs.Forms.{Forms}

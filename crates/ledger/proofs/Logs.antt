@@ -1,8 +1,8 @@
 -- The log of a run, one entry more at a time.
-use Rattle.std.proofs.Common.{◌≡◌, ℕ, zero, suc, ◌+◌, ◌<◌, ◌≤◌, Bool, List, [], ◌∷◌, ◌++◌, map, length, get_or, take, set, sym, refl, ap, ◌∙◌, subst, le_of_suc-le-suc, not-suc-le-zero}
+use Rattle.std.proofs.Common.{◌≡◌, ℕ, zero, suc, ◌+◌, ◌<◌, ◌≤◌, Bool, List, [], ◌∷◌, ◌++◌, map, length, get_or, take, set, refl, ap, ◌∙◌, subst, le_of_suc-le-suc}
 use mathlib.Core.Path.{subst⁻¹}
 use Rattle.std.proofs.lemmas.List.{map-append, take_more_set, take_all}
-use Rattle.station.specs.Steps.{Call, Step}
+use Rattle.station.specs.Steps.{Step}
 use Rattle.station.specs.Views.{View}
 use Rattle.ledger.specs.Asking.{call_of, event_of}
 use Rattle.ledger.specs.Laws.{Event, Run}

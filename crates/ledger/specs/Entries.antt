@@ -7,7 +7,7 @@
 --   entries_after es a  the fields after an action on the label: a text that is set has count 0
 --   entries_after_all    the same after the actions of several commands in turn; a command that is no label command has none
 --   after_tag es        the fields once one more tag was taken
-use Rattle.std.specs.Prelude.{ℕ, zero, suc, ◌-◌, cond, List, [], ◌∷◌, map, set, Some, None, Option, slice_index_or, slice_set}
+use Rattle.std.specs.Prelude.{ℕ, zero, suc, ◌-◌, cond, List, [], ◌∷◌, map, Some, None, Option, slice_index_or, slice_set}
 use Rattle.texts.specs.Wheels.{Wheels}
 use Rattle.fields.specs.Records.{Layout, Slot, blank_slot, is_linked}
 use Rattle.fields.specs.Tables.{Table, blank_table}

@@ -3,7 +3,7 @@ use Rattle.std.proofs.Common.{◌≡◌, ℕ, ◌+◌, ◌<◌, Bool, true, fals
 use Rattle.jobparts.specs.Kinds.{stands}
 use Rattle.jobparts.specs.declared.part.Wrong.{Wrong}
 use Rattle.jobgroups.specs.Commands.{Plain}
-use Rattle.job.specs.Reading.{answer_of, next_of, then_read, open_at, begin_at, ending_at, placed, body_at, before, window, read_at}
+use Rattle.job.specs.Reading.{answer_of, next_of, then_read, open_at, begin_at, placed, body_at, before, window, read_at}
 use Rattle.job.specs.declared.fault.ReadFault.{ReadFault}
 
 never : {X : Type 0} (e : ReadFault) (c : Plain) → ◌≡◌ {A = Result Plain ReadFault} (Err e) (Ok c) → X

@@ -1,13 +1,13 @@
 -- A form that was read lies in the front of the work buffer, and is what the recall does.
-use Rattle.std.proofs.Common.{◌≡◌, ℕ, ◌-◌, Bool, true, false, cond, leb, List, ◌++◌, length, take, drop, Some, None, Ok, Err, Option, Result, sym, refl, ap, ◌∙◌, arith}
+use Rattle.std.proofs.Common.{◌≡◌, ℕ, ◌-◌, Bool, true, false, cond, leb, List, ◌++◌, length, take, drop, Some, None, Option, Result, sym, refl, ap, ◌∙◌, arith}
 use Rattle.std.proofs.lemmas.List.{take_at}
 use Rattle.stores.specs.Forms.{loaded_of, filled_with}
 use Rattle.stores.specs.declared.answers.Loaded.{Loaded}
-use Rattle.stores.specs.declared.answers.Loaded.TheVariants.{Nothing, NoRoom, Filled}
+use Rattle.stores.specs.declared.answers.Loaded.TheVariants.{NoRoom, Filled}
 use Rattle.label.specs.Labels.{LabelSeen}
 use Rattle.station.specs.Recalls.{commands_of, done_all}
 use Rattle.station.specs.Steps.{recalled, relabelled}
-use Rattle.station.specs.Views.{View, with_label}
+use Rattle.station.specs.Views.{View}
 use Rattle.station.specs.declared.blame.Blame.{Blame}
 
 pub record Found (o : Option (List ℕ)) (out : List ℕ) (n : ℕ) : Type 0 where

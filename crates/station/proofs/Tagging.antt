@@ -1,5 +1,5 @@
 -- A tag that was taken, from what the printer and the label told.
-use Rattle.std.proofs.Common.{◌≡◌, ℕ, ◌+◌, ◌-◌, ◌≤◌, Bool, true, false, cond, eqb, ltb, List, ◌++◌, length, take, drop, is_err, Some, None, Ok, Err, Result, sym, refl, ap, ◌∙◌, subst, arith}
+use Rattle.std.proofs.Common.{◌≡◌, ℕ, ◌+◌, ◌-◌, ◌≤◌, false, cond, eqb, ltb, List, ◌++◌, length, take, drop, is_err, Some, None, Ok, Err, Result, sym, ap, ◌∙◌, subst, arith}
 use Rattle.std.proofs.lemmas.List.{take_at}
 use Rattle.faults.specs.declared.Refusal.TheVariants.{ShortBuffer, OutOfStock}
 use Rattle.printers.specs.Paper.{Paper, after_take}

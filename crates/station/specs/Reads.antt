@@ -2,7 +2,7 @@
 --   read_at job at    the command, or the fault as the reader tells it
 --   next_at job at    where reading goes on
 --   out_of_bounds      the job is too long, or the place past its end: what is refused before the buffers are looked at
-use Rattle.std.specs.Prelude.{ℕ, Bool, true, false, cond, List, length, Result, nat_lt}
+use Rattle.std.specs.Prelude.{ℕ, Bool, true, cond, List, length, Result, nat_lt}
 use Rattle.limits.specs.Limits.{longest_job}
 use Rattle.jobgroups.specs.Commands.{Plain}
 use Rattle.job.specs.Reading.{answer_of, next_of}

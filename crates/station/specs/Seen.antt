@@ -1,5 +1,4 @@
 -- seen: what can be seen of a station, by the meanings of its store, its printer and its rules.
-use Rattle.std.specs.Prelude.{ℕ}
 use Rattle.stores.specs.declared.store.FormStore.{Ghosts as StoreGhosts}
 use Rattle.printers.specs.declared.printer.Printer.{Ghosts as PrinterGhosts}
 use Rattle.texts.specs.declared.rule.CountingRule.{Ghosts as RuleGhosts}

@@ -10,11 +10,11 @@
 --   print_fault      why a print is refused, if it is
 --   printed v p     the station after a tag, p being its paper then
 --   Step v c ok u   the call c at v is accepted (ok) or refused, and leaves u
-use Rattle.std.specs.Prelude.{◌≡◌, ℕ, zero, suc, ◌+◌, ◌-◌, ◌<◌, ◌≤◌, Bool, true, false, cond, List, [], ◌++◌, length, take, drop, Some, None, Ok, Err, Option, Result, ◌==◌, nat_le, nat_lt}
+use Rattle.std.specs.Prelude.{◌≡◌, ℕ, ◌+◌, ◌-◌, ◌<◌, ◌≤◌, Bool, true, false, cond, List, [], ◌++◌, length, take, drop, Some, None, Ok, Err, Option, Result, ◌==◌, nat_le, nat_lt}
 use Rattle.limits.specs.Limits.{longest_form, last_tag}
 use Rattle.faults.specs.declared.Fault.{Fault}
 use Rattle.faults.specs.declared.Refusal.{Refusal}
-use Rattle.faults.specs.declared.Refusal.TheVariants.{ShortBuffer, LabelsOwed, NotWhileSaving, NotSaving, DraftFull, NoSuchForm, FormTooLong, StoreFull, TooManyOrdered, NothingOwed, OutOfStock}
+use Rattle.faults.specs.declared.Refusal.TheVariants.{ShortBuffer, LabelsOwed, NotWhileSaving, NotSaving, DraftFull, NoSuchForm, TooManyOrdered, NothingOwed, OutOfStock}
 use Rattle.jobgroups.specs.Commands.{Plain}
 use Rattle.stores.specs.Forms.{Forms, put_answer, stored, emptied, filled_with}
 use Rattle.stores.specs.declared.answers.StoreFault.{StoreFault}
@@ -22,7 +22,7 @@ use Rattle.stores.specs.Refusals.{refusal_of as storeRefusal}
 use Rattle.printers.specs.Paper.{Paper}
 use Rattle.tagline.specs.Line.{line_of}
 use Rattle.label.specs.Actions.{Action}
-use Rattle.label.specs.Labels.{LabelSeen, new_label, label_refusal, label_after, refusal_of, turned_label}
+use Rattle.label.specs.Labels.{LabelSeen, new_label, label_refusal, turned_label}
 use Rattle.station.specs.declared.blame.Blame.{Blame}
 use Rattle.station.specs.Reads.{read_at, next_at, out_of_bounds, Misread}
 use Rattle.station.specs.Requests.{Request, on_label, issue, begin_saving, end_saving, recall, empty_store, tell_status, reset, request_of}

@@ -5,7 +5,7 @@
 --             labels were ordered since it was made
 --   made      a newly made station
 --   owed_by v  the labels that v owes
-use Rattle.std.specs.Prelude.{ℕ, List, []}
+use Rattle.std.specs.Prelude.{ℕ, List}
 use Rattle.texts.specs.Wheels.{Wheels}
 use Rattle.stores.specs.Forms.{Forms}
 use Rattle.printers.specs.Paper.{Paper}

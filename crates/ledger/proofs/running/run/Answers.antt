@@ -1,4 +1,4 @@
-use Rattle.std.proofs.Common.{◌≡◌, ℕ, ◌<◌, false, [], map, length, get_or, refl, ◌∙◌, subst, arith, length-set}
+use Rattle.std.proofs.Common.{ℕ, ◌<◌, false, [], map, length, get_or, refl, ◌∙◌, subst, arith, length-set}
 use Rattle.station.specs.Seen.{seen}
 use Rattle.station.specs.Steps.{Step}
 use Rattle.ledger.specs.Asking.{call_of, said_by, event_of}
