@@ -5,7 +5,8 @@ usage: python3 tools/respell.py [--list]     at the top of a checkout, once, beh
 
 A name is turned where it is declared in specs/ or proofs/: camelCase and kebab-case become snake_case, types and modules keep
 their capitals. The names of goals (those that are declared with a type `goal.NAME`) are the toolchain's and stay, and so do
-names that come from the library. Where two names would fall together, TABLE says what they become.
+names that come from the library, and the fields of a loop's record `l`. Where two names would fall together, TABLE says what
+they become. The lists of words at the head of a specification are lined up again. Run again, it changes nothing.
 """
 
 import os
@@ -31,10 +32,13 @@ TABLE = {
     "turned-text": "turned_text_lem",
 }
 
-# names of the library, or of goals, that are declared nowhere as ours
-KEEP = set()
+# names that are bound, as by an import, and declared nowhere
+BOUND = (
+    "at-start byteWrong columnsNear endingMissing escapeMissing filedBy lettersUnknown readJob readRefusal readerAt rowsNear "
+    "slotsOf storeRefusal takenPaper valueRefused whole-first withStored"
+).split()
 
-WORD = re.compile(r"[^\s(){}\[\],;.\"`:«»]+")
+WORD = re.compile(r"(?<!\bl\.)(?<![^\s(){}\[\],;.\"`:«»])[^\s(){}\[\],;.\"`:«»]+")
 DECLARED = re.compile(r"^\s*((?:abbrev |unfoldable |pub |opaque )*)([a-z][^\s(){}\[\],;.\"`:]*) :\s*(.*)")
 
 
@@ -55,6 +59,21 @@ def files(*endings):
 def read(path):
     with open(path, encoding="utf-8") as f:
         return f.read()
+
+
+def lined_up(text):
+    """The text, with the meanings of the words at its head in one column; a word that is too long has three spaces behind it."""
+    lines = text.split("\n")
+    head = next((i for i, line in enumerate(lines) if not line.startswith("--")), len(lines))
+    entry = re.compile(r"(-- {2,4}\S.*?)( {2,})(\S.*)")
+    found = {i: m for i, m in ((i, entry.fullmatch(lines[i])) for i in range(1, head)) if m}
+    if not found or not text.startswith("--"):
+        return text
+    under = [len(m.group(0)) for m in (re.match(r"-- {8,}(?=\S)", line) for line in lines[1:head]) if m]
+    column = max(set(under), key=under.count) if under else min(m.start(3) for m in found.values())
+    for i, m in found.items():
+        lines[i] = m.group(1) + " " * max(column - len(m.group(1)), 3 if len(m.group(1)) + 2 > column else 2) + m.group(3)
+    return "\n".join(lines)
 
 
 def declared():
@@ -82,8 +101,10 @@ def main():
     own, goals = declared()
     library = imported()
     turned = {}
-    for name in sorted(own - goals - library - KEEP):
-        new = TABLE.get(name, snake(name))
+    spelled = {snake(name) for name in own if snake(name) != name}
+    for name in sorted((own | set(BOUND)) - goals - library):
+        # (a name in snake case gives way only where another one becomes it)
+        new = TABLE.get(name, snake(name)) if snake(name) != name or name in spelled else name
         if new != name:
             turned[name] = new
     words, functions = {}, set()
@@ -108,6 +129,7 @@ def main():
         text = read(path)
         if path.endswith(".antt"):
             said = WORD.sub(lambda m: turned.get(m.group(0), m.group(0)), text)
+            said = lined_up(said) if "/specs/" in path else said
         else:
             said = "\n".join(
                 WORD.sub(lambda m: turned.get(m.group(0), m.group(0)), line)

@@ -1,10 +1,10 @@
 -- What is done to fields one by one, and what is refused.
---   replaced_by, replaced   a field with a new format, and with the text given or none: nothing of the old field stays
+--   replaced_by, replaced  a field with a new format, and with the text given or none: nothing of the old field stays
 --   retext, retexted       a field with another text, its format as it was
 --   emptied, cleared       texts go, formats stay
 --   turned_slot, turned_table   a field's text turned by its step, by the rule of its kind: the wheels w of the first rule for
 --                          texts and bars of type 3, the wheels v of the second for bars of type 9
---   outside_check c t       refused, where t has a character outside the set of the check c
+--   outside_check c t      refused, where t has a character outside the set of the check c
 --   replace_refusal, text_refusal   why a new format with a text, or a new text, is refused; a name without a field has no format
 use Rattle.std.specs.Prelude.{ℕ, cond, List, [], Some, None, Option}
 use Rattle.texts.specs.Checks.{admits_all}

@@ -1,7 +1,7 @@
 -- How many fields and links there are.
 --   text_fields, bar_fields   the text fields and bar fields of a label; both are numbered from 1
---   most_links               the links of one field
---   is_link n                n is the number of a link string: 1 to 8
+--   most_links              the links of one field
+--   is_link n               n is the number of a link string: 1 to 8
 --   LinksBelow ns k         the first k of ns are such numbers
 use Rattle.std.specs.Prelude.{◌≡◌, ℕ, ◌<◌, Bool, true, List, slice_index}
 use Rattle.limits.specs.Bytes.{between}

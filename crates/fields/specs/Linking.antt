@@ -1,10 +1,10 @@
 -- Link strings: every linked field gets its strings joined in its own order.
 --   joined_text strings links   the strings that the links name, joined in the order of the links: strings are numbered from
 --                       1, one that was not sent is empty, and one that is named twice is joined twice
---   linked_slot, linked  a field whose text, if it is linked, is now its joined text; every field of a table so
---   too_long, outside    a field's joined text is too long for a text, or has a character outside the set of its check; a
+--   linked_slot, linked   a field whose text, if it is linked, is now its joined text; every field of a table so
+--   too_long, outside   a field's joined text is too long for a text, or has a character outside the set of its check; a
 --                       field that is not linked joins nothing, so it is neither
---   link_refusal         why link strings are refused: by any field's joined text that is too long, else by any that has a
+--   link_refusal        why link strings are refused: by any field's joined text that is too long, else by any that has a
 --                       character outside its check's set
 --   outside_if_fits, linked_if_fits   the same as outside and linked_slot for a field whose joined text is not too long
 use Rattle.std.specs.Prelude.{ℕ, ◌-◌, Bool, true, false, cond, List, [], ◌∷◌, ◌++◌, length, Some, None, Option, ◌==◌, nat_lt, slice_index_or}

@@ -1,12 +1,12 @@
 -- The field table of a label, by its meaning.
 --   Table             the text fields and the bar fields, each kind in the order of its numbers
---   seen_fields        what the table of the code means;  blank_table  the table of a new label
---   is_field name      there is such a field: text field 1 to 16, bar field 1 to 8
---   slot_of name t     the field of that name in t
+--   seen_fields       what the table of the code means;  blank_table  the table of a new label
+--   is_field name     there is such a field: text field 1 to 16, bar field 1 to 8
+--   slot_of name t    the field of that name in t
 --   with_slot name s t t with s for that field, and every other field as it was
---   each_slot f t      t with f done to every field
---   any_slot p t       some field of t passes the test p
---   refusal_of r       the reason that the answer r gives, if it refuses
+--   each_slot f t     t with f done to every field
+--   any_slot p t      some field of t passes the test p
+--   refusal_of r      the reason that the answer r gives, if it refuses
 --   Answered why r before after done   the answer r of a call that may refuse: where it is Ok, there is no reason why to
 --                     refuse, and all is left as done says; where it is an error, that is the reason, and nothing has changed
 use Rattle.std.specs.Prelude.{◌≡◌, ℕ, ◌-◌, Bool, true, false, cond, List, [], ◌∷◌, map, replicate, Some, None, Ok, Err, Option, Result, slice_index_or, slice_set}

@@ -1,17 +1,17 @@
 -- What the reader answers at a place of a job.
 --   leads ls bs        the bytes bs begin with the letters ls
---   first_led cs bs     the first command of cs with whose letters bs begins
---   parsed_at           what the table says of a body whose letters are known, or not known
+--   first_led cs bs    the first command of cs with whose letters bs begins
+--   parsed_at          what the table says of a body whose letters are known, or not known
 --   before b bs        how many bytes of bs stand before the first b; all, where there is none
---   next_escape         the place of the first ESC behind a place, or the job's end
---   open_at             the job is not too long, and the place not past its end
---   begin_at            a command begins at the place
---   ending_at           the place of the LF that ends it: the first, with NUL behind it, both within the longest command
---   read_at             the command at a place and the place behind it, or the fault
+--   next_escape        the place of the first ESC behind a place, or the job's end
+--   open_at            the job is not too long, and the place not past its end
+--   begin_at           a command begins at the place
+--   ending_at          the place of the LF that ends it: the first, with NUL behind it, both within the longest command
+--   read_at            the command at a place and the place behind it, or the fault
 --   refusal_of, fault_of what the reader refuses, as a station tells it
 use Rattle.std.specs.Prelude.{ℕ, ◌+◌, Bool, true, false, cond, List, [], ◌∷◌, length, take, drop, Some, None, Ok, Err, Option, Result, ◌==◌, nat_eq, nat_lt, slice_index}
 use Rattle.faults.specs.declared.Refusal.{Refusal}
-use Rattle.faults.specs.declared.Refusal.TheVariants.{JobBounds, JobEnd, NoEscape as escapeMissing, NoEnding as endingMissing, UnknownLetters as lettersUnknown, WrongByte as byteWrong, NotAdmitted as valueRefused}
+use Rattle.faults.specs.declared.Refusal.TheVariants.{JobBounds, JobEnd, NoEscape as escape_missing, NoEnding as ending_missing, UnknownLetters as letters_unknown, WrongByte as byte_wrong, NotAdmitted as value_refused}
 use Rattle.faults.specs.declared.Fault.{Fault}
 use Rattle.jobparts.specs.declared.part.ReadRefusal.{ReadRefusal}
 use Rattle.jobparts.specs.declared.part.ReadRefusal.TheVariants.{OutOfBounds, AtEnd, NoEscape, NoEnding, UnknownLetters, WrongByte, NotAdmitted}
@@ -28,11 +28,11 @@ use Rattle.job.specs.declared.fault.ReadFault.{ReadFault}
 abbrev pub refusal_of : ReadRefusal → Refusal
 refusal_of OutOfBounds = JobBounds
 refusal_of AtEnd = JobEnd
-refusal_of NoEscape = escapeMissing
-refusal_of NoEnding = endingMissing
-refusal_of UnknownLetters = lettersUnknown
-refusal_of WrongByte = byteWrong
-refusal_of NotAdmitted = valueRefused
+refusal_of NoEscape = escape_missing
+refusal_of NoEnding = ending_missing
+refusal_of UnknownLetters = letters_unknown
+refusal_of WrongByte = byte_wrong
+refusal_of NotAdmitted = value_refused
 
 abbrev pub fault_of : ReadFault → Fault
 fault_of e = record { refusal = refusal_of e.refusal; form = 0; place = e.place; next = e.next }

@@ -1,7 +1,7 @@
 -- A command as it was read, with places and bytes as numbers and lists.
 --   Plain         a command's letters and its parts in the order of the table
---   slotsOf..     the parts of the code's command, in that order
---   command_at c   what the table says of a body of the command c whose parts begin at a place
+--   slots_of..    the parts of the code's command, in that order
+--   command_at c  what the table says of a body of the command c whose parts begin at a place
 use Rattle.std.specs.Prelude.{ℕ, List, [], ◌∷◌, ◌++◌, Ok, Err, Result}
 use Rattle.jobparts.specs.Grammar.{row_at}
 use Rattle.jobparts.specs.Slots.{Slot, Got, then, slot_of, option_slot, source_slot}

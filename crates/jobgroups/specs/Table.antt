@@ -1,7 +1,7 @@
 -- The table of commands: for each its letters, and its parts in order with their kinds of bytes and admitted values.
 -- docs/COMMANDS.md says the same in words.
---   letters_of c   the bytes that a body of this command begins with
---   parts_of c     the groups of items behind the letters
+--   letters_of c  the bytes that a body of this command begins with
+--   parts_of c    the groups of items behind the letters
 --   order         the commands in the order in which letters are tried: `RC;` before `RC`
 use Rattle.std.specs.Prelude.{ℕ, Bool, true, false, cond, List, [], ◌∷◌, ◌==◌, nat_eq, nat_le, slice_index_or}
 use Rattle.limits.specs.Bytes.{between}

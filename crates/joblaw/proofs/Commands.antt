@@ -32,9 +32,9 @@ stands_is f body at lt e = cond-true _ _ _ (lt-ltb at (length body) lt) ∙ e
 
 window_is : (pre whole post : List ℕ) → length whole ≤ longest_command → window (pre ++ (whole ++ post)) (length pre) ≡ whole ++ take (longest_command - length whole) post
 window_is pre whole post short =
-    let whole-first : longest_command ≡ length whole + (longest_command - length whole) = omega arith in
+    let whole_first : longest_command ≡ length whole + (longest_command - length whole) = omega arith in
     ap (take longest_command) (drop-append_seam pre (whole ++ post))
-    ∙ ap (λ n. take n (whole ++ post)) whole-first
+    ∙ ap (λ n. take n (whole ++ post)) whole_first
     ∙ take-append-add whole post (longest_command - length whole)
 
 -- the LF's place, for a window that begins with a whole command

@@ -1,8 +1,8 @@
 -- How a command is written: its items in order, in groups, and the one reading of them.
 --   Item         a fixed byte, or something that yields a part, see below
---   item_at       what an item yields at a place of a body, or the first thing wrong in it
---   group_at      what the items of a group yield, one behind the other, or the leftmost wrong one
---   row_at        what the groups of a command yield; nothing may be left over behind them
+--   item_at      what an item yields at a place of a body, or the first thing wrong in it
+--   group_at     what the items of a group yield, one behind the other, or the leftmost wrong one
+--   row_at       what the groups of a command yield; nothing may be left over behind them
 --   one_of, one_letter   the rules that admit some numbers, and some letters
 use Rattle.std.specs.Prelude.{ℕ, ◌-◌, Bool, true, false, cond, List, [], ◌∷◌, ◌++◌, map, Ok, Result, ◌==◌, slice_index}
 use Rattle.jobparts.specs.Items.{Admits, byte_at, end_at, part_at, number_at, chosen_at, text_at, list_part_at, lettered_at, signed_at, source_at}

@@ -1,7 +1,7 @@
 -- The kinds of bytes that parts are made of.
---   of_kind k b         the byte b is of the kind k
+--   of_kind k b        the byte b is of the kind k
 --   run k bs           how many bytes at the front of bs are of the kind k
---   is_sign b           b is + or -
+--   is_sign b          b is + or -
 --   stands f body at   a byte stands at the place, and passes f
 use Rattle.std.specs.Prelude.{ℕ, ◌+◌, Bool, true, false, cond, List, [], ◌∷◌, length, ◌==◌, nat_lt, slice_index}
 use Rattle.limits.specs.Bytes.{is_digit, is_capital, in_text}

@@ -1,7 +1,7 @@
 -- What reading yields: for each part of a command a slot, with places and bytes as numbers and lists.
 --   Slot          a part that is missing, one that is given, or link numbers
 --   Got           the slots so far, and the place behind them
---   wrong_byte p   a byte that does not fit stands at p, or is missing there
+--   wrong_byte p  a byte that does not fit stands at p, or is missing there
 --   not_admitted p the part that begins at p is not admitted
 --   then r f      f of what r yields; a wrong part stays the answer
 --   slot_of, taken, reached   a part of the code, and the answer that has one, as slots

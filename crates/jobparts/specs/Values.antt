@@ -1,6 +1,6 @@
 -- What the bytes of a part mean.
 --   value bs      the number that the digits bs write
---   number_of bs   the number of a numeric part, which has at most ten digits
+--   number_of bs  the number of a numeric part, which has at most ten digits
 use Rattle.std.specs.Prelude.{ℕ, ◌+◌, ◌-◌, ◌*◌, List, [], ◌∷◌, take}
 
 abbrev pub value_after : ℕ → List ℕ → ℕ

@@ -7,7 +7,7 @@ use Rattle.jobparts.specs.Kinds.{stands}
 use Rattle.jobparts.specs.declared.part.Wrong.{Wrong}
 use Rattle.jobparts.specs.declared.part.ReadRefusal.TheVariants.{OutOfBounds, AtEnd, NoEscape, NoEnding}
 use Rattle.jobgroups.specs.Commands.{Plain}
-use Rattle.job.specs.Reading.{fault_of, answer_of, next_of, then_read, fault, next_escape, placed, body_at, before, window, read_at as readerAt}
+use Rattle.job.specs.Reading.{fault_of, answer_of, next_of, then_read, fault, next_escape, placed, body_at, before, window, read_at as reader_at}
 use Rattle.job.specs.declared.fault.ReadFault.{ReadFault}
 use Rattle.station.specs.Reads.{read_at, next_at, out_of_bounds}
 use Rattle.station.specs.Steps.{commanded, on_read, concluded, short_buffers, fault_at}
@@ -55,7 +55,7 @@ module _ (job : List ℕ) (at : ℕ) where
   open_on false true q r g h = never (sym h)
   open_on false false q r g h = record { within = is_not_below (length job) at q; on = g h }
 
-  reading_on : over (readerAt job at) ≡ false → Onward job at (next_of (readerAt job at))
+  reading_on : over (reader_at job at) ≡ false → Onward job at (next_of (reader_at job at))
   reading_on = open_on (ltb longest_job (length job)) (ltb (length job) at) refl _
       (begin_on (ltb at (length job)) (eqb (get_or job at 0) 27) _
       (ending_on (stands (eqb 0) (window job at) (before 10 (window job at) + 1)) (before 10 (window job at)) (λ end. body_at (take end job) at)))
@@ -63,7 +63,7 @@ module _ (job : List ℕ) (at : ℕ) where
   module _ (v : View) (answer work : ℕ) where
     -- an accepted command
     pub accepted_on : (u : View) (next : ℕ) → commanded v job at answer work ≡ Ok (u, next) → Onward job at next
-    accepted_on u next e = go (readerAt job at) refl (reading_on) (bounds (out_of_bounds job at) (short_buffers answer work) e)
+    accepted_on u next e = go (reader_at job at) refl (reading_on) (bounds (out_of_bounds job at) (short_buffers answer work) e)
       where
         bounds : (a b : Bool) → cond a (on_read v job at (read_at job at)) (cond b (Err (fault_at ShortBuffer 0 at at)) (on_read v job at (read_at job at))) ≡ Ok (u, next)
             → on_read v job at (read_at job at) ≡ Ok (u, next)
@@ -75,7 +75,7 @@ module _ (job : List ℕ) (at : ℕ) where
         told (Ok y) k e = ap (λ (p : View × ℕ). p.1) (ok_inj e)
         told (Err b) k e = not_ok e
 
-        go : (r : Result (Plain × ℕ) ReadFault) → readerAt job at ≡ r → (over r ≡ false → Onward job at (next_of r)) → on_read v job at (answer_of r) ≡ Ok (u, next) → Onward job at next
+        go : (r : Result (Plain × ℕ) ReadFault) → reader_at job at ≡ r → (over r ≡ false → Onward job at (next_of r)) → on_read v job at (answer_of r) ≡ Ok (u, next) → Onward job at next
         go (Ok x) q g e = subst (Onward job at) (sym (ap next_of q) ∙ told _ (next_at job at) e) (g refl)
         go (Err x) q g e = not_ok e
 
@@ -87,12 +87,12 @@ module _ (job : List ℕ) (at : ℕ) where
         told (Ok y) k e = not_ok (sym e)
         told (Err b) k e = ap (λ (x : Fault). x.next) (err_inj e)
 
-        go : (r : Result (Plain × ℕ) ReadFault) → readerAt job at ≡ r → (over r ≡ false → Onward job at (next_of r)) → on_read v job at (answer_of r) ≡ Err f → Onward job at f.next
+        go : (r : Result (Plain × ℕ) ReadFault) → reader_at job at ≡ r → (over r ≡ false → Onward job at (next_of r)) → on_read v job at (answer_of r) ≡ Err f → Onward job at f.next
         go (Ok x) q g e = subst (Onward job at) (sym (ap next_of q) ∙ told _ (next_at job at) e) (g refl)
         go (Err x) q g e = subst (Onward job at) (ap (λ (y : Fault). y.next) (err_inj e)) (g (ap ends (err_inj e) ∙ h))
 
         read : on_read v job at (read_at job at) ≡ Err f → Onward job at f.next
-        read e = go (readerAt job at) refl (reading_on) e
+        read e = go (reader_at job at) refl (reading_on) e
 
         bounds : (a b : Bool) → cond a (on_read v job at (read_at job at)) (cond b (Err (fault_at ShortBuffer 0 at at)) (on_read v job at (read_at job at))) ≡ Err f → Onward job at f.next
         bounds true b e = read e

@@ -1,9 +1,9 @@
 -- A whole job on a station.
---   is_last t          the step t ends the job
---   place_after t at   the place where the job goes on after the step t at a place
+--   is_last t         the step t ends the job
+--   place_after t at  the place where the job goes on after the step t at a place
 --   Turns job at d ts p e   the steps ts, none of which ends the job, lead from d at a place to e at the place p
 --   Worked job d ts e the steps ts from the beginning of the job, and then one that ends it, lead from d to e
---   tags_in ts         the tags that the printer took in the steps
+--   tags_in ts        the tags that the printer took in the steps
 --   Booked f p w v x n   some calls lead from a new station with the forms f, the paper p and the wheels w and v to x; the tag
 --                     ledger accounts for every tag before the first call and after each, and has n tags taken at the end
 use Rattle.std.specs.Prelude.{◌≡◌, ℕ, ◌+◌, Bool, true, false, List, [], ◌∷◌}

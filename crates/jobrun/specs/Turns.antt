@@ -1,7 +1,7 @@
 -- One step of a job on a station.
 --   Moment            what can be seen of a station, and what its answer and its work buffer hold
 --   ends f            a fault at which a job is over: of its bounds, of the buffers, or at its end
---   is_out f           the fault of a print for want of stock
+--   is_out f          the fault of a print for want of stock
 --   Sent d job at r e the command at a place of a job, sent at d, answers r and leaves e
 --   Taken d n e       a print at d is accepted; it tells the line's length n and leaves e
 --   Turned job at d t e   the step t of a job at a place leads from d to e: a tag that is owed comes before the next

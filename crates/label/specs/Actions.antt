@@ -1,7 +1,7 @@
 -- What commands ask of a label, in the label's own words: another language of commands would come to the same actions.
 --   Action       a label command by its meaning: other sizes, all texts and drawings gone, a field's new format with its text,
 --                another text for a field, the eight link strings, or one more drawing
---   action_of c   the action of a command as it was read; none, where it is no label command
+--   action_of c  the action of a command as it was read; none, where it is no label command
 -- A field's text or its links come from one part: `source_text` and `source_links` say which.
 use Rattle.std.specs.Prelude.{ℕ, cond, List, [], Some, None, Option, ◌==◌, nat_eq, slice_index_or}
 use Rattle.texts.specs.declared.checks.Check.{Check}

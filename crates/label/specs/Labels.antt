@@ -1,11 +1,11 @@
 -- A label by its meaning, and what actions make of it.
 --   LabelSeen        the sizes of a label in tenths of a millimetre, its fields, and its drawings in the order in which they were made
---   new_label         a label at making;  seen_label  what the label of the code means
---   seen_action       what an action of the code means
---   label_refusal     why a label refuses an action, if it does
---   label_after       the label after an action that it does not refuse
---   turned_label w v  the label with every text turned by its step
---   label_picture     the label's picture: its drawings on white, cut at its width and its length
+--   new_label        a label at making;  seen_label  what the label of the code means
+--   seen_action      what an action of the code means
+--   label_refusal    why a label refuses an action, if it does
+--   label_after      the label after an action that it does not refuse
+--   turned_label w v   the label with every text turned by its step
+--   label_picture    the label's picture: its drawings on white, cut at its width and its length
 --   Answered why r before after done   the answer r of a call that may refuse: where it is Ok, there is no reason why to
 --                    refuse, and the label is as done says; where it is an error, that is the reason, and nothing has changed
 --   Acted a r before after   the answer r to an action; without one it is Ok, and nothing has changed

@@ -1,13 +1,13 @@
 -- What the parts of a command mean to a label. A reader lets only digits through where a number stands, only texts where a text
 -- stands, and so on; what is said here of other bytes makes the meanings total, and no command that was read comes to it.
---   up_to high bs      the number of a numeric part, and `high` where it is higher
+--   up_to high bs     the number of a numeric part, and `high` where it is higher
 --   figure bs         a number of four digits at most;  small bs  one of two digits at most
 --   signed bs, step_of s   a sign and ten digits as a number; a step that is not given is 0
---   kept_of s          the places that zero suppression keeps, if it is given
---   text_of bs         a text; bytes that are none are the empty text
+--   kept_of s         the places that zero suppression keeps, if it is given
+--   text_of bs        a text; bytes that are none are the empty text
 --   before bs, behind bs   what stands before the first comma, and what stands behind it; without a comma all and nothing
 --   pieces n bs       n strings parted by commas; one that was not sent is empty
---   links_of bs        up to four link numbers parted by commas; one that no string has is left out
+--   links_of bs       up to four link numbers parted by commas; one that no string has is left out
 use Rattle.std.specs.Prelude.{ℕ, zero, suc, ◌+◌, min, Bool, true, false, cond, List, [], ◌∷◌, ◌++◌, map, length, take, drop, ℤ, pos, neg_ℤ, Some, None, Option, ◌==◌, nat_eq, nat_le}
 use Rattle.limits.specs.Bytes.{in_text}
 use Rattle.limits.specs.Limits.{longest_text}

@@ -19,9 +19,9 @@ use Rattle.station.specs.Reads.{read_at}
 use Rattle.station.specs.Requests.{Request, on_label, issue, begin_saving, end_saving, recall, empty_store, tell_status, reset, request_of}
 use Rattle.station.specs.declared.blame.Blame.{Blame}
 use Rattle.station.specs.Recalls.{acted, commands_of, done_all}
-use Rattle.station.specs.Steps.{Call, command, print, reload, Step, whole_at, commanded, answered, answered_in, when_idle, when_saving, when_owing, relabelled, recalled, ordering, owing_all, most_ordered, drafted, refused, filed as filedBy, Printed, PrintedIn, printed, taken as takenPaper, tag_line, Reloaded}
+use Rattle.station.specs.Steps.{Call, command, print, reload, Step, whole_at, commanded, answered, answered_in, when_idle, when_saving, when_owing, relabelled, recalled, ordering, owing_all, most_ordered, drafted, refused, filed as filed_by, Printed, PrintedIn, printed, taken as taken_paper, tag_line, Reloaded}
 use Rattle.faults.specs.declared.Refusal.TheVariants.{TooManyOrdered, DraftFull}
-use Rattle.station.specs.Views.{Doing, idle, saving, owing, View, made, with_label, with_doing, with_forms as withStored, with_ordered}
+use Rattle.station.specs.Views.{Doing, idle, saving, owing, View, made, with_label, with_doing, with_forms as with_stored, with_ordered}
 use Rattle.ledger.specs.Entries.{Entries, table_now, entries_after, entries_after_all}
 use Rattle.ledger.specs.Ledgers.{Form, given, filed, Ledger, opened, feed, noted, label_noted, issue_noted, end_noted, recall_noted, reset_noted, read_noted, print_noted, actions_of, with_fields, with_forms, with_draft}
 use Rattle.ledger.specs.Laws.{most_owed}
@@ -88,7 +88,7 @@ module _ (r : Reader) (w w' : Wheels) (base : ℕ) where
     latest = h.latest;
   }
 
-  restore : (l : Ledger) (v : View) (f : Forms) (forms : ℕ → Option Form) → Bound w w' base l v → ((n : ℕ) → FormTied (f.at n) (forms n)) → Bound w w' base (with_forms forms l) (withStored f v)
+  restore : (l : Ledger) (v : View) (f : Forms) (forms : ℕ → Option Form) → Bound w w' base l v → ((n : ℕ) → FormTied (f.at n) (forms n)) → Bound w w' base (with_forms forms l) (with_stored f v)
   restore l v f forms h t = record {
     first = h.first;
     second = h.second;
@@ -204,16 +204,16 @@ module _ (r : Reader) (w w' : Wheels) (base : ℕ) where
             ))
         go false b e = not_ok e
 
-    saving_end : (at : ℕ) → filedBy v n d at (put_answer v.forms n (length d)) ≡ Ok u → Bound w w' base (end_noted l.saving l) u
+    saving_end : (at : ℕ) → filed_by v n d at (put_answer v.forms n (length d)) ≡ Ok u → Bound w w' base (end_noted l.saving l) u
     saving_end at e = subst⁻¹ (λ (o : Option ℕ). Bound w w' base (end_noted o l) u) t.0 (go (put_answer v.forms n (length d)) e)
       where
         put : (k : ℕ) (b : Bool) → FormTied (cond b (Some d) (v.forms.at k)) (cond b (Some (filed l.draft)) (l.forms k))
         put k true = (ap Some t.2, t.3, subst (λ (x : List ℕ). length x ≤ longest_form) t.2 t.4)
         put k false = h.forms k
 
-        go : (o : Result (Unit {0}) StoreFault) → filedBy v n d at o ≡ Ok u → Bound w w' base (end_noted (Some n) l) u
+        go : (o : Result (Unit {0}) StoreFault) → filed_by v n d at o ≡ Ok u → Bound w w' base (end_noted (Some n) l) u
         go (Ok x) e = subst (λ (y : View). Bound w w' base (end_noted (Some n) l) y) (ok_inj e)
-            (redo (with_forms (λ k. cond (eqb k n) (Some (filed l.draft)) (l.forms k)) l) (withStored (stored v.forms n d) v) idle None []
+            (redo (with_forms (λ k. cond (eqb k n) (Some (filed l.draft)) (l.forms k)) l) (with_stored (stored v.forms n d) v) idle None []
             (restore l v (stored v.forms n d) (λ k. cond (eqb k n) (Some (filed l.draft)) (l.forms k)) h (λ k. put k (eqb k n)))
             (refl, t.1))
         go (Err x) e = not_ok e
@@ -266,7 +266,7 @@ module _ (r : Reader) (w w' : Wheels) (base : ℕ) where
       ties true z = (t.0, omega (arith, t.1, at_most left 1 z))
       ties false z = (t.0, ap (λ (k : ℕ). k - 1) t.1, t.2, omega (arith, more_than left 1 z))
 
-      after : Bound w w' base (print_noted w w' l) (printed v left size (takenPaper v.paper (tag_line v left size) u.paper.left))
+      after : Bound w w' base (print_noted w w' l) (printed v left size (taken_paper v.paper (tag_line v left size) u.paper.left))
       after = record {
         first = h.first;
         second = h.second;

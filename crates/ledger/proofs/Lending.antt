@@ -44,7 +44,7 @@ module _ (v : View) (job : List ℕ) (at lent room : ℕ) (answer work : List �
 does_more : (u v x : View) (answer work a w : List ℕ) (es : List Entry) (e : Entry) → Does u answer work es v a w → Step v (call_of (length a) (length w) e.call) e.accepted x
     → Does u answer work (es ++ e ∷ []) x (answer_left v e.call a w) (work_left v e.call a w)
 does_more u v x answer work a w [] e d s =
-    let at-start : (y : View) (b z : List ℕ) → y ≡ v → b ≡ a → z ≡ w → Does y b z (e ∷ []) x (answer_left v e.call a w) (work_left v e.call a w) =
+    let at_start : (y : View) (b z : List ℕ) → y ≡ v → b ≡ a → z ≡ w → Does y b z (e ∷ []) x (answer_left v e.call a w) (work_left v e.call a w) =
     λ y b z p q r. (
       x,
       subst (λ (k : View). Step k (call_of (length b) (length z) e.call) e.accepted x) (sym p)
@@ -56,7 +56,7 @@ does_more u v x answer work a w [] e d s =
         ap (λ (k : View). work_left k e.call a w) (sym p) ∙ ap₂ (λ (k m : List ℕ). work_left y e.call k m) (sym q) (sym r),
       ),
     ) in
-    at-start u answer work (sym d.0) (sym d.1) (sym d.2)
+    at_start u answer work (sym d.0) (sym d.1) (sym d.2)
 does_more u v x answer work a w (f ∷ es) e d s = (d.0, d.1, does_more d.0 v x _ _ a w es e d.2 s)
 
 pub does_next : (u v x : View) (answer work a w b z : List ℕ) (log : List Entry) (i : ℕ) (n : Entry) (ok : Bool) → i < length log

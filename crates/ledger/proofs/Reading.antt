@@ -6,7 +6,7 @@ use Rattle.jobparts.specs.Slots.{Slot, missing, given, linked, bytes_of}
 use Rattle.jobgroups.specs.Commands.{Plain}
 use Rattle.jobgroups.specs.declared.letters.Letters.{Letters}
 use Rattle.jobgroups.specs.declared.letters.Letters.TheVariants.{D, C, Pc, Xb, RcLinks, Rc, Rb, Lc, Xr, Xs, Xo, Xp, Xq, J1, Ws, Wr}
-use Rattle.job.specs.Reading.{answer_of, next_of, read_at as readJob}
+use Rattle.job.specs.Reading.{answer_of, next_of, read_at as read_job}
 use Rattle.job.specs.declared.fault.ReadFault.{ReadFault}
 use Rattle.label.specs.Actions.{action_for, part, bytes, figure_check, source_text, source_links}
 use Rattle.label.specs.Values.{step_of, kept_of}
@@ -119,13 +119,13 @@ reader = record { located = there; cut = alone }
   where
     there : (before w behind : List ℕ) (c : Plain) → Whole w c → length (before ++ (w ++ behind)) ≤ longest_job → (d : Plain) × Located (before ++ (w ++ behind)) (length before) c (length w) d
     there before w behind c h short =
-        let e : readJob (before ++ (w ++ behind)) (length before) ≡ Ok (shift_plain (length before) c, length before + length w) =
-        located before w behind c (read_both (readJob w 0) c (length w) h.reads h.ends) short in
+        let e : read_job (before ++ (w ++ behind)) (length before) ≡ Ok (shift_plain (length before) c, length before + length w) =
+        located before w behind c (read_both (read_job w 0) c (length w) h.reads h.ends) short in
         (shift_plain (length before) c, record { reads = ap answer_of e; asks = request_moved (length before) c; ends = ap next_of e })
 
     alone : (job : List ℕ) (at : ℕ) (c : Plain) → read_at job at ≡ Ok c → (d : Plain) × Cut job at c d
     alone job at c e =
-        let a : (d : Plain) × Alone job at c (next_at job at) d = cut job at c (next_at job at) (read_both (readJob job at) c (next_at job at) e refl) in (
+        let a : (d : Plain) × Alone job at c (next_at job at) d = cut job at c (next_at job at) (read_both (read_job job at) c (next_at job at) e refl) in (
           a.0,
           record {
             whole = record { reads = ap answer_of a.1.reads; ends = ap next_of a.1.reads ∙ sym a.1.long };

@@ -1,5 +1,5 @@
 -- The calls of a run, as the law speaks of them.
---   call_of answer work a    the call a, where the run's buffers have so many bytes
+--   call_of answer work a   the call a, where the run's buffers have so many bytes
 --   event_of answer work e   an entry of the log: its call, and whether it was accepted
 --   Said, said_by      a call as its caller said it: the bytes of its job, its place, and what it asks of the buffers
 --   Does u a w es x a' w'   the calls of es, on the station u with the bytes a and w in the buffers of the run, lead to x, a' and w'

@@ -1,12 +1,12 @@
 -- The fields as a tag ledger keeps them: each text as it was last set, and never a turned one.
 --   Entry              a field as last set, and how many tags were taken since its text was set
 --   Entries            the text fields and the bar fields, each kind in the order of its numbers
---   just_set s          the entry of a field whose text is set now;  blank_entries  the fields of a new label
---   slot_now w v e      the field as the next tag shows it: its text turned one step for every tag taken since it was set
---   table_now w v es    all fields so
---   entries_after es a  the fields after an action on the label: a text that is set has count 0
---   entries_after_all    the same after the actions of several commands in turn; a command that is no label command has none
---   after_tag es        the fields once one more tag was taken
+--   just_set s         the entry of a field whose text is set now;  blank_entries  the fields of a new label
+--   slot_now w v e     the field as the next tag shows it: its text turned one step for every tag taken since it was set
+--   table_now w v es   all fields so
+--   entries_after es a   the fields after an action on the label: a text that is set has count 0
+--   entries_after_all  the same after the actions of several commands in turn; a command that is no label command has none
+--   after_tag es       the fields once one more tag was taken
 use Rattle.std.specs.Prelude.{ℕ, zero, suc, ◌-◌, cond, List, [], ◌∷◌, map, Some, None, Option, slice_index_or, slice_set}
 use Rattle.texts.specs.Wheels.{Wheels}
 use Rattle.fields.specs.Records.{Layout, Slot, blank_slot, is_linked}

@@ -4,9 +4,9 @@
 --   Asks c r          c is a command call with long enough buffers, whose command is well formed and asks for r
 --   Sends w c         c is a command call with long enough buffers, whose job has the bytes w at its place and is not too long
 --   SendsAll ws es    the calls of es send the commands ws, one after another
---   digits_told v      the four digits that a status answer tells
+--   digits_told v     the four digits that a status answer tells
 --   Accounted base l v   the ledger l accounts for the station v, whose printer had taken `base` tags at the making
---   digits_in answer   the four digits of labels owed in the bytes of a status answer
+--   digits_in answer  the four digits of labels owed in the bytes of a status answer
 --   Answered l v      a status answer asked for now has the ledger's labels owed in the answer buffer
 use Rattle.std.specs.Prelude.{◌≡◌, ℕ, ◌+◌, ◌<◌, ◌≤◌, Bool, true, false, ◌&&◌, List, [], ◌∷◌, ◌++◌, length, take, drop, Some, Ok}
 use Rattle.limits.specs.Limits.{longest_job}

@@ -3,8 +3,8 @@
 --   Ledger            the fields as last set; the forms; the number under which a form is being saved, and its commands so far;
 --                     the labels ordered, taken, owed and cancelled, and the size of the latest issue; the latest tag's line
 --   opened forms      the ledger of a newly made station whose store has these forms
---   actions_of x       the actions of a form's commands in turn
---   tag_of w v l       the line of the next tag
+--   actions_of x      the actions of a form's commands in turn
+--   tag_of w v l      the line of the next tag
 --   feed w v l c ok   the ledger after the call c. The wheels w and v are those of the two counting rules
 use Rattle.std.specs.Prelude.{ℕ, ◌+◌, ◌-◌, Bool, true, false, cond, List, [], ◌∷◌, ◌++◌, map, Some, None, Ok, Err, Option, Result, ◌==◌}
 use Rattle.std.specs.Option.{option_map}

@@ -13,8 +13,8 @@ between_is s a b h x = grind (arith, nat_tests)
 
 -- rows near an end, whole, and of the rows between the columns near an end
 pub frame :
-    (first last inner wide left right rows rowsNear columns columnsNear dot : Bool)
-    → (first || last) ≡ (rows && rowsNear) → inner ≡ (rows && not rowsNear) → wide ≡ columns → (left || right) ≡ (columns && columnsNear)
+    (first last inner wide left right rows rows_near columns columns_near dot : Bool)
+    → (first || last) ≡ (rows && rows_near) → inner ≡ (rows && not rows_near) → wide ≡ columns → (left || right) ≡ (columns && columns_near)
     → cond (inner && right) true (cond (inner && left) true (cond (last && wide) true (cond (first && wide) true dot)))
-    ≡ cond ((rows && columns) && (rowsNear || columnsNear)) true dot
-frame first last inner wide left right rows rowsNear columns columnsNear dot h i w k = grind arith
+    ≡ cond ((rows && columns) && (rows_near || columns_near)) true dot
+frame first last inner wide left right rows rows_near columns columns_near dot h i w k = grind arith

@@ -1,12 +1,12 @@
 -- The picture of a label, dot by dot, and its bytes. A picture tells of a row and a column whether the dot there is black.
 --   drawn ds r c dot             what the drawings ds, one after the other, make of the dot at row r, column c
 --   white                        the picture without a black dot, on which a label is drawn
---   cut_at width long r c dot     the dot where a label of these sizes, in tenths, is cut: white from the width's dot on and from the length's
+--   cut_at width long r c dot    the dot where a label of these sizes, in tenths, is cut: white from the width's dot on and from the length's
 --   picture start ds width long  the picture `start` after the drawings, cut
 --   packed eight                 the byte of eight dots, the first in the highest bit, black 1
---   byte_at pic p                 byte p of a picture
---   bytes_of n pic                the first n bytes of a picture
---   too_short dots                the buffer has no room for a picture
+--   byte_at pic p                byte p of a picture
+--   bytes_of n pic               the first n bytes of a picture
+--   too_short dots               the buffer has no room for a picture
 --   shown pic dots               the buffer with the picture at its front; one that is too short stays
 use Rattle.std.specs.Prelude.{ℕ, ◌+◌, Bool, false, cond, ◌&&◌, List, [], ◌∷◌, ◌++◌, map, length, drop, nat_lt}
 use Rattle.std.specs.List.{range_with_len}

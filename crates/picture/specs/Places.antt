@@ -1,5 +1,5 @@
 -- Tenths of a millimetre and dots, of which there are eight to the millimetre.
---   dot_of v          the dot of the tenth v
+--   dot_of v         the dot of the tenth v
 --   amid a b x       the dot x lies between those of the tenths a and b, which are included and come in any order
 --   band a thick x   the dot x is one of the `thick` dots that begin with that of the tenth a
 --   near thick a b x the dot x, between those of a and b, is fewer than `thick` dots from one of the two

@@ -1,6 +1,6 @@
 -- What a printer means, and what a take and a reload do to it.
 --   Paper             the tags taken since making, the stock left, and the latest line, which is empty before any tag
---   take_answer        what a take answers, by the line's length: a line is accepted exactly when it has 1 to 1,354 bytes and stock is left
+--   take_answer       what a take answers, by the line's length: a line is accepted exactly when it has 1 to 1,354 bytes and stock is left
 --   after_take, reloaded   the paper then, the stock being given
 --   Stocked           what a printer's stock keeps: worn line is what a take of line leaves, again what a reload leaves
 --   unused n          a new printer with a stock of n

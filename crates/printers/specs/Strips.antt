@@ -1,5 +1,5 @@
 -- A strip: lines written one behind the other into given bytes, begun over at a reload, until the last tag of all.
---   room_for used size      the stock of an open strip: 1 while the longest line has room, else 0
+--   room_for used size     the stock of an open strip: 1 while the longest line has room, else 0
 --   written b used line    the bytes once a line stands behind the used ones; all others stay
 use Rattle.std.specs.Prelude.{ℕ, ◌+◌, Bool, cond, List, ◌++◌, length, take, drop, Ok, Err, vec_len, Result, nat_le, nat_lt}
 use Rattle.limits.specs.Limits.{longest_line, last_tag}

@@ -1,11 +1,11 @@
 -- Doing the commands of a form, one after another, all or none.
 --   Said            what a command of a form came to when it was read: its place in the form, and the command or the fault
---   commands_of f    the commands of the form f in their order, as far as they can be read
---   done_all n l cs  the label l after all commands cs of form n; or the first refused one. A form holds label commands alone
+--   commands_of f   the commands of the form f in their order, as far as they can be read
+--   done_all n l cs   the label l after all commands cs of form n; or the first refused one. A form holds label commands alone
 use Rattle.std.specs.Prelude.{ℕ, zero, suc, cond, List, [], ◌∷◌, length, Some, None, Ok, Err, Option, Result, nat_lt}
 use Rattle.faults.specs.declared.Refusal.TheVariants.{NotWhileSaving}
 use Rattle.jobgroups.specs.Commands.{Plain}
-use Rattle.job.specs.Reading.{refusal_of as readRefusal}
+use Rattle.job.specs.Reading.{refusal_of as read_refusal}
 use Rattle.label.specs.Actions.{Action, action_of}
 use Rattle.label.specs.Labels.{LabelSeen, label_refusal, label_after, refusal_of}
 use Rattle.label.specs.declared.fault.LabelFault.{LabelFault}
@@ -36,7 +36,7 @@ acted_on n l at None = Err (record { refusal = NotWhileSaving; form = n; place =
 
 abbrev pub done_one : ℕ → LabelSeen → ℕ → Result Plain Misread → Result LabelSeen Blame
 done_one n l at (Ok c) = acted_on n l at (action_of c)
-done_one n l at (Err e) = Err (record { refusal = readRefusal e.refusal; form = n; place = e.place })
+done_one n l at (Err e) = Err (record { refusal = read_refusal e.refusal; form = n; place = e.place })
 
 abbrev pub then_done : Result LabelSeen Blame → (LabelSeen → Result LabelSeen Blame) → Result LabelSeen Blame
 then_done (Ok l) f = f l

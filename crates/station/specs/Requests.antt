@@ -1,7 +1,7 @@
 -- What a command asks of a station, in the station's own words.
 --   Request        an action on the label, an issue of labels, the beginning or the end of saving a form, the recall of a form,
 --                  emptying the store, telling the status, or a reset
---   request_of c    the request of a command as it was read
+--   request_of c   the request of a command as it was read
 use Rattle.std.specs.Prelude.{ℕ, List, Some, None, Option}
 use Rattle.jobparts.specs.Slots.{Slot}
 use Rattle.jobgroups.specs.Commands.{Plain}

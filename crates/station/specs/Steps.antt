@@ -6,8 +6,8 @@
 --   commanded       what a command call comes to: the station then and the next place, or the fault
 --   Commanded o r v u   a command call that came to o answers r, and leaves u
 --   answer_after, work_after   the two buffers after a command
---   tag_line v       the line of the tag that v prints next
---   print_fault      why a print is refused, if it is
+--   tag_line v      the line of the tag that v prints next
+--   print_fault     why a print is refused, if it is
 --   printed v p     the station after a tag, p being its paper then
 --   Step v c ok u   the call c at v is accepted (ok) or refused, and leaves u
 use Rattle.std.specs.Prelude.{◌≡◌, ℕ, ◌+◌, ◌-◌, ◌<◌, ◌≤◌, Bool, true, false, cond, List, [], ◌++◌, length, take, drop, Some, None, Ok, Err, Option, Result, ◌==◌, nat_le, nat_lt}
@@ -18,7 +18,7 @@ use Rattle.faults.specs.declared.Refusal.TheVariants.{ShortBuffer, LabelsOwed, N
 use Rattle.jobgroups.specs.Commands.{Plain}
 use Rattle.stores.specs.Forms.{Forms, put_answer, stored, emptied, filled_with}
 use Rattle.stores.specs.declared.answers.StoreFault.{StoreFault}
-use Rattle.stores.specs.Refusals.{refusal_of as storeRefusal}
+use Rattle.stores.specs.Refusals.{refusal_of as store_refusal}
 use Rattle.printers.specs.Paper.{Paper}
 use Rattle.tagline.specs.Line.{line_of}
 use Rattle.label.specs.Actions.{Action}
@@ -60,7 +60,7 @@ recalled v n at None = Err (record { refusal = NoSuchForm; form = n; place = at 
 
 abbrev pub filed : View → ℕ → List ℕ → ℕ → Result (Unit {0}) StoreFault → Result View Blame
 filed v n draft at (Ok x) = Ok (with_doing idle (with_forms (stored v.forms n draft) v))
-filed v n draft at (Err e) = refused (storeRefusal e) at
+filed v n draft at (Err e) = refused (store_refusal e) at
 
 -- what is owed at the start of an issue; the reader admits no issue of 0 labels, which would owe nothing
 abbrev pub owing_all : ℕ → Doing

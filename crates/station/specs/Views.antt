@@ -4,7 +4,7 @@
 --   View      the forms in its store, its printer's paper, its two counting rules, its label, what it is doing, and how many
 --             labels were ordered since it was made
 --   made      a newly made station
---   owed_by v  the labels that v owes
+--   owed_by v   the labels that v owes
 use Rattle.std.specs.Prelude.{ℕ, List}
 use Rattle.texts.specs.Wheels.{Wheels}
 use Rattle.stores.specs.Forms.{Forms}

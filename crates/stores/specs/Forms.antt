@@ -1,17 +1,17 @@
 -- What a form store means, and what each call does to that meaning.
 --   Forms           under each number a form or nothing, the longest form that it takes, and the total of all forms
 --   numbered n      n is a number that a form can have
---   place_of n       where the form of a number stands among all, counted from 0
---   size_of o        the bytes of a form; none where there is nothing
+--   place_of n      where the form of a number stands among all, counted from 0
+--   size_of o       the bytes of a form; none where there is nothing
 --   others f n      the bytes of all forms but the one under n
 --   Lawful f        what every store keeps. The forms may be any bytes, and may exceed the total already
---   length_of o      what a store answers when it is asked for a form's size
+--   length_of o     what a store answers when it is asked for a form's size
 --   loaded_of, filled_with   what reading a form answers, and what it leaves in the buffer
---   put_answer, after_put    what putting a form answers, and the forms then
---   stored, emptied        the forms with one more, and with none
+--   put_answer, after_put   what putting a form answers, and the forms then
+--   stored, emptied   the forms with one more, and with none
 --   vacant l t      no form at all, with a longest form of l bytes and a total of t
 --   lowered m f     the same forms under a total of at most m
---   from_one g       forms that are counted from 1, where g counts them from 0
+--   from_one g      forms that are counted from 1, where g counts them from 0
 use Rattle.std.specs.Prelude.{◌≡◌, ℕ, zero, suc, ◌+◌, ◌-◌, ◌≤◌, Bool, false, cond, List, ◌++◌, length, drop, Some, None, Ok, Err, Option, Result, ◌==◌, nat_le}
 use Rattle.limits.specs.Bytes.{between}
 use Rattle.limits.specs.Limits.{last_form, longest_form, largest_total}

@@ -1,5 +1,5 @@
 -- What a read cache keeps: the copy of a form.
---   kept_form p          the copy in a page
+--   kept_form p         the copy in a page
 --   OfPage s n x p      the store, number and form of which a fact is known are those of the page p
 use Rattle.std.specs.Prelude.{◌≡◌, ℕ, List, take}
 use Rattle.stores.specs.declared.cache.page.Page.{Page}

@@ -1,10 +1,10 @@
 -- What a packed store holds: the forms one behind the other, by their numbers, with a table of their lengths.
---   size_in l          the bytes of an entry of the table: its length, or none
---   size_at ls k       the bytes of the k-th entry, counted from 0
+--   size_in l         the bytes of an entry of the table: its length, or none
+--   size_at ls k      the bytes of the k-th entry, counted from 0
 --   used ls           the bytes of all entries
 --   before ls k       the bytes of the entries before the k-th: where its form begins
---   packed_at ls b k   the form of the k-th entry in the bytes b, or nothing
---   packed_forms       the meaning of a packed store
+--   packed_at ls b k  the form of the k-th entry in the bytes b, or nothing
+--   packed_forms      the meaning of a packed store
 --   spliced           the bytes once a form stands between start and end, with what came behind moved up to it
 use Rattle.std.specs.Prelude.{ℕ, zero, suc, ◌+◌, ◌-◌, List, [], ◌∷◌, ◌++◌, length, take, drop, Some, None, Option, slice_index_or, slice_range}
 use Rattle.stores.specs.Forms.{Forms, from_one}

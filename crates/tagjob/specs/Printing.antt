@@ -1,5 +1,5 @@
 -- What a job prints on a new station.
---   new_station        a newly made station with an empty packed store, an unused roll, and the plain and the Code 128 rule
+--   new_station       a newly made station with an empty packed store, an unused roll, and the plain and the Code 128 rule
 --   Prints job answer work n answer' work'   the job, done on a new station with these bytes in the two buffers, prints n tags
 --                     and leaves those bytes in the buffers
 --   Told job answer work n answer' work'   the job prints so, and no job with the same bytes prints otherwise

@@ -1,6 +1,6 @@
 -- How a refusal is written: `R`, its number, its layer's letter, its form and its place, parted by commas, and LF.
 --   six n           the last six digits of n
---   refusal_line f   the line of the fault f
+--   refusal_line f  the line of the fault f
 use Rattle.std.specs.Prelude.{ℕ, ◌/◌, List, [], ◌∷◌, ◌++◌}
 use Rattle.tagline.specs.Digits.{digit, two}
 use Rattle.faults.specs.Numbers.{number_of, layer_of, letter_of}

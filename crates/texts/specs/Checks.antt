@@ -2,8 +2,8 @@
 --   value10 b, value43 b     what a character counts for; a character outside the set of its check counts for 0
 --   character43 v            the character that counts for v
 --   weight n                 in modulus 10 a digit with n digits behind it counts 3 times, once, 3 times, .. from the right
---   check_sum c t             the weighted sum of t under the check c
---   check_character c t       the check character of t, as a text of one byte; none for NoCheck
+--   check_sum c t            the weighted sum of t under the check c
+--   check_character c t      the check character of t, as a text of one byte; none for NoCheck
 --   admits c b               the check c takes the character b;  admits_all c t  it takes all of t
 use Rattle.std.specs.Prelude.{ℕ, ◌+◌, ◌-◌, ◌*◌, ◌%◌, Bool, true, false, cond, List, [], ◌∷◌, length, ◌==◌, nat_lt, slice_index}
 use Rattle.limits.specs.Bytes.{is_digit, is_capital}
