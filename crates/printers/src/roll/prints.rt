@@ -6,7 +6,7 @@ ghost use Rattle.faults.specs.declared.Refusal.TheVariants.{ShortBuffer};
 ghost use Rattle.printers.specs.Paper.{unused};
 ghost use Rattle.printers.specs.Tallies.{latest_of};
 ghost use Rattle.printers.specs.Rolls.{roll_paper, roll_again};
-ghost use Rattle.std.proofs.Common.{rules, arith};
+ghost use Rattle.std.proofs.Common.{rules};
 
 use crate::fault::PrinterFault;
 use crate::printer::Printer;

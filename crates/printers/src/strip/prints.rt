@@ -4,7 +4,7 @@ ghost use Rattle.limits.specs.Limits.{longest_line, last_tag};
 ghost use Rattle.faults.specs.declared.Refusal.TheVariants.{ShortBuffer};
 ghost use Rattle.printers.specs.Paper.{unused, take_answer, after_take, reloaded};
 ghost use Rattle.printers.specs.Strips.{strip_paper, strip_worn, strip_again, written, bytes_after, used_after};
-ghost use Rattle.std.proofs.Common.{rules, arith};
+ghost use Rattle.std.proofs.Common.{rules};
 
 use crate::fault::PrinterFault;
 use crate::printer::Printer;

@@ -1,7 +1,7 @@
 // A read cache as a form store: size and longest are asked below, and a form that was read last is not read again.
 ghost use Rattle.std.specs.Prelude.{◌≡◌, length};
 ghost use Rattle.stores.specs.Forms.{loaded_of, filled_with};
-ghost use Rattle.std.proofs.Common.{rules, arith};
+ghost use Rattle.std.proofs.Common.{rules};
 
 use crate::answers::{Loaded, StoreFault};
 use crate::cache::ReadCache;
