@@ -115,7 +115,8 @@ def main():
         functions.update(re.findall(r"\bfn (\w+)", read(path)))
     back = {}
     for old, new in turned.items():
-        back.setdefault(new, []).append(old)
+        if old in words:
+            back.setdefault(new, []).append(old)
     for new, olds in sorted(back.items()):
         if new in turned:
             continue
