@@ -1,9 +1,9 @@
 // One round of calls over any printer.
 use faults::Refusal;
-use printers::fault::PrinterFault;
 use printers::printer::Printer;
 use std::io;
 
+// Kept so: the steps are data, since each kind goes through the same ones.
 #[derive(Clone, Copy)]
 pub enum Step {
     Take(usize),
@@ -38,13 +38,9 @@ fn take<P: Printer>(rt: &HostRuntime, printer: &mut P, len: usize) -> io::Result
 // Takes lines until the printer refuses, at most a thousand.
 fn run_out<P: Printer>(rt: &HostRuntime, printer: &mut P, len: usize) -> io::Result<()> {
     let line = vec![in rt.alloc(); b'B'; len]?;
-    let mut done = 0u32;
-    for _ in 0..1000u32 {
-        match printer.take(&line) {
-            Ok(()) => done = done.saturating_add(1),
-            Err(PrinterFault::OutOfStock) => break,
-        }
-    }
+    let done = (0..1000u32)
+        .take_while(|_| printer.take(&line).is_ok())
+        .count();
     print!(rt; "  {done} lines of {len} bytes")
 }
 
@@ -64,16 +60,15 @@ pub fn drive<P: Printer + Drop>(
     rt: &HostRuntime,
     name: &str,
     amount: u64,
-    printer: P,
+    mut printer: P,
 ) -> io::Result<()> {
-    let mut printer = printer;
     println!(rt;
         "{name} of {amount}: taken {}, left {}",
         printer.taken(),
         printer.left()
     )?;
-    for step in ROUND.iter() {
-        perform(rt, &mut printer, *step)?;
+    for step in ROUND {
+        perform(rt, &mut printer, step)?;
     }
     Ok(())
 }

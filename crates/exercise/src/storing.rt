@@ -1,12 +1,14 @@
 // One round of calls over any form store.
 use faults::Refusal;
+use limits::sizes::LAST_FORM;
 use std::io;
-use stores::answers::{Loaded, StoreFault};
+use stores::answers::{LoadFault, StoreFault};
 use stores::packed::PackedStore;
 use stores::quota::Quota;
 use stores::store::FormStore;
 
 // A form is a letter, repeated.
+// Kept so: the steps are data, since each kind and layer goes through the same ones.
 #[derive(Clone, Copy)]
 pub enum Step {
     Size(u8),
@@ -95,12 +97,12 @@ fn size<S: FormStore>(rt: &HostRuntime, store: &S, number: u8) -> io::Result<()>
 fn read<S: FormStore>(rt: &HostRuntime, store: &mut S, number: u8, room: usize) -> io::Result<()> {
     let mut out = vec![in rt.alloc(); b'.'; room]?;
     match store.read(number, &mut out) {
-        Loaded::Nothing => print!(rt; "  read {number}: nothing ")?,
-        Loaded::NoRoom => print!(rt; "  read {number}: no room ")?,
-        Loaded::Filled(len) => print!(rt; "  read {number}: {len} bytes ")?,
+        Ok(len) => print!(rt; "  read {number}: {len} bytes ")?,
+        Err(LoadFault::NoForm) => print!(rt; "  read {number}: nothing ")?,
+        Err(LoadFault::NoRoom) => print!(rt; "  read {number}: no room ")?,
     }
     for b in &out {
-        print!(rt; "{}", *b as char)?;
+        print!(rt; "{}", char::from(*b))?;
     }
     println!(rt; "")
 }
@@ -110,7 +112,7 @@ fn fill<S: FormStore>(rt: &HostRuntime, store: &mut S, len: usize) -> io::Result
     let form = vec![in rt.alloc(); b'A'; len]?;
     let mut done = 0u32;
     let mut full = 0u32;
-    for number in 1..21u8 {
+    for number in 1..=LAST_FORM {
         match store.put(number, &form) {
             Ok(()) => done = done.saturating_add(1),
             Err(StoreFault::Full) => full = full.saturating_add(1),
@@ -133,11 +135,10 @@ fn perform<S: FormStore>(rt: &HostRuntime, store: &mut S, step: Step) -> io::Res
     }
 }
 
-pub fn drive<S: FormStore + Drop>(rt: &HostRuntime, name: &str, store: S) -> io::Result<()> {
-    let mut store = store;
+pub fn drive<S: FormStore + Drop>(rt: &HostRuntime, name: &str, mut store: S) -> io::Result<()> {
     println!(rt; "{name}")?;
-    for step in ROUND.iter() {
-        perform(rt, &mut store, *step)?;
+    for step in ROUND {
+        perform(rt, &mut store, step)?;
     }
     Ok(())
 }
@@ -148,8 +149,8 @@ pub fn lowered(rt: &HostRuntime) -> io::Result<()> {
     put(rt, &mut below, 1, 10, b'a')?;
     put(rt, &mut below, 2, 20, b'b')?;
     let mut store = Quota::new(below, 20);
-    for step in OVER.iter() {
-        perform(rt, &mut store, *step)?;
+    for step in OVER {
+        perform(rt, &mut store, step)?;
     }
     Ok(())
 }

@@ -1,8 +1,11 @@
 // What a station refuses, and how a refusal is told: by number, layer, form, place and next place.
 #![tactic(auto)]
 
-ghost use Rattle.std.specs.Prelude.{◌≡◌};
+ghost use Rattle.std.specs.Prelude.{◌≡◌, Some};
 ghost use Rattle.faults.specs.Numbers.{number_of, layer_of, letter_of};
+ghost use Rattle.faults.specs.Words.{words_of};
+
+use std::fmt;
 
 // The part of a station that refuses.
 #[derive(Clone, Copy, PartialEq, Eq, Debug)]
@@ -31,60 +34,36 @@ impl Layer {
 // Why something was refused. docs/FAULTS.md says when each comes.
 #[derive(Clone, Copy, PartialEq, Eq, Debug)]
 pub enum Refusal {
-    JobBounds,
-    ShortBuffer,
-    JobEnd,
-    NoEscape,
-    NoEnding,
-    UnknownLetters,
-    WrongByte,
-    NotAdmitted,
-    LabelsOwed,
-    NotWhileSaving,
-    NotSaving,
-    DraftFull,
-    NoFormat,
-    FieldLinked,
-    JoinedTooLong,
-    OutsideCheck,
-    TooManyDrawings,
-    NoSuchForm,
-    FormTooLong,
-    StoreFull,
-    TooManyOrdered,
-    NothingOwed,
-    OutOfStock,
+    JobBounds = 1,
+    ShortBuffer = 2,
+    JobEnd = 3,
+    NoEscape = 4,
+    NoEnding = 5,
+    UnknownLetters = 6,
+    WrongByte = 7,
+    NotAdmitted = 8,
+    LabelsOwed = 9,
+    NotWhileSaving = 10,
+    NotSaving = 11,
+    DraftFull = 12,
+    NoFormat = 13,
+    FieldLinked = 14,
+    JoinedTooLong = 15,
+    OutsideCheck = 16,
+    TooManyDrawings = 17,
+    NoSuchForm = 18,
+    FormTooLong = 19,
+    StoreFull = 20,
+    TooManyOrdered = 21,
+    NothingOwed = 22,
+    OutOfStock = 23,
 }
 
 impl Refusal {
     pub fn number(self) -> u8
         ensures { result ≡ number_of self }
     {
-        match self {
-            Refusal::JobBounds => 1,
-            Refusal::ShortBuffer => 2,
-            Refusal::JobEnd => 3,
-            Refusal::NoEscape => 4,
-            Refusal::NoEnding => 5,
-            Refusal::UnknownLetters => 6,
-            Refusal::WrongByte => 7,
-            Refusal::NotAdmitted => 8,
-            Refusal::LabelsOwed => 9,
-            Refusal::NotWhileSaving => 10,
-            Refusal::NotSaving => 11,
-            Refusal::DraftFull => 12,
-            Refusal::NoFormat => 13,
-            Refusal::FieldLinked => 14,
-            Refusal::JoinedTooLong => 15,
-            Refusal::OutsideCheck => 16,
-            Refusal::TooManyDrawings => 17,
-            Refusal::NoSuchForm => 18,
-            Refusal::FormTooLong => 19,
-            Refusal::StoreFull => 20,
-            Refusal::TooManyOrdered => 21,
-            Refusal::NothingOwed => 22,
-            Refusal::OutOfStock => 23,
-        }
+        self as u8
     }
 
     pub fn layer(self) -> Layer
@@ -113,6 +92,41 @@ impl Refusal {
             Refusal::NoSuchForm | Refusal::FormTooLong | Refusal::StoreFull => Layer::Store,
             Refusal::OutOfStock => Layer::Printer,
         }
+    }
+}
+
+// In plain words.
+impl fmt::Display for Refusal {
+    ghost output = { λ r. Some (words_of r) };
+
+    fn fmt<W: fmt::Write>(&self, f: &mut fmt::Formatter<W>) -> fmt::Result {
+        f.write_str(match self {
+            Refusal::JobBounds =>
+                "the job is longer than 60000 bytes, or the place lies past its end",
+            Refusal::ShortBuffer => "a buffer is too short, or a size lies outside its limits",
+            Refusal::JobEnd => "the job ends here",
+            Refusal::NoEscape => "no command begins here: ESC is missing",
+            Refusal::NoEnding => "no LF with NUL behind it ends this command within 255 bytes",
+            Refusal::UnknownLetters => "no command has these letters",
+            Refusal::WrongByte => "a byte is missing, left over or of the wrong kind",
+            Refusal::NotAdmitted => "a value, a choice or a length is not admitted",
+            Refusal::LabelsOwed => "labels are owed: only the status and a reset are taken now",
+            Refusal::NotWhileSaving =>
+                "this can not be done while a form is saved, nor stand in a form",
+            Refusal::NotSaving => "no form is being saved",
+            Refusal::DraftFull => "with this command the form would be longer than 1024 bytes",
+            Refusal::NoFormat => "the field has no format",
+            Refusal::FieldLinked => "the text of a linked field comes from link strings alone",
+            Refusal::JoinedTooLong => "the link strings would make a text of more than 40 bytes",
+            Refusal::OutsideCheck => "a character lies outside the set of the field's check",
+            Refusal::TooManyDrawings => "the label has 24 drawings already",
+            Refusal::NoSuchForm => "the store has no form of this number",
+            Refusal::FormTooLong => "the form is longer than the store takes",
+            Refusal::StoreFull => "the store has no room for the form",
+            Refusal::TooManyOrdered => "more labels would be ordered than a station counts",
+            Refusal::NothingOwed => "no label is owed",
+            Refusal::OutOfStock => "the printer has no stock left",
+        })
     }
 }
 

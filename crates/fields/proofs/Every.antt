@@ -1,6 +1,6 @@
 -- A loop over all fields of a kind that does g to each.
-use Rattle.std.proofs.Common.{◌≡◌, ℕ, ◌+◌, ◌<◌, ◌≤◌, List, ◌++◌, map, length, get_or, take, drop, set, sym, ap, ◌∙◌, append-nil, arith}
-use Rattle.std.proofs.lemmas.List.{map-set, get_or-map, length-map, take_all, drop_all}
+use Rattle.std.proofs.Common.{◌≡◌, ℕ, ◌+◌, ◌<◌, List, ◌++◌, map, length, get_or, take, drop, set, sym, ap, ◌∙◌, arith}
+use Rattle.std.proofs.lemmas.List.{map-set, get_or-map, length-map}
 use Rattle.std.proofs.lemmas.List.Edits.{map_over_more}
 use Rattle.fields.specs.Records.{Slot, seen_field}
 use Rattle.fields.specs.declared.field.Field.{Field}
@@ -17,10 +17,3 @@ module _ (g : Slot → Slot) (before fields : List Field) (i : ℕ) where
       map-set seen_field fields i new
       ∙ ap (set (map seen_field fields) i) h
       ∙ map_over_more g (map seen_field before) (map seen_field fields) i (seen_field (get_or fields i d)) lt' inv (sym (get_or-map seen_field fields i d _ (omega arith)))
-
-  pub done_all_lem : length before ≤ i → Done g before fields i → map seen_field fields ≡ map g (map seen_field before)
-  done_all_lem le inv =
-      let le' : length (map seen_field before) ≤ i = omega (arith, length-map before seen_field) in
-      let t = take_all i (map seen_field before) le' in
-      let d = drop_all i (map seen_field before) le' in
-      inv ∙ simp (t, d, append-nil)

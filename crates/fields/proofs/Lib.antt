@@ -1,4 +1,3 @@
 pub mod Every
-pub mod Joins
 pub mod Lifting
 pub mod Tests

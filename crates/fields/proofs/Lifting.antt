@@ -1,10 +1,10 @@
 -- What one field answers, its table answers.
-use Rattle.std.proofs.Common.{◌≡◌, ℕ, ◌-◌, ◌<◌, Bool, true, false, cond, List, map, length, get_or, set, Some, Ok, Err, Option, Result, sym, refl, ap, ◌∙◌, subst, arith}
+use Rattle.std.proofs.Common.{◌≡◌, ℕ, ◌-◌, ◌<◌, Bool, true, false, cond, List, map, length, get_or, set, Some, Ok, Err, Option, Result, sym, refl, ap, ◌∙◌, subst}
 use Rattle.std.proofs.lemmas.List.{map-set, get_or-map, set-get_or}
 use Rattle.limits.specs.Bytes.{between}
 use Rattle.fields.specs.Records.{Slot, seen_field, blank_slot}
 use Rattle.fields.specs.Counts.{text_fields, bar_fields}
-use Rattle.fields.specs.Tables.{Table, is_field, slot_of, with_slot, Answered, place_of}
+use Rattle.fields.specs.Tables.{Table, Updated, Answered, place_of}
 use Rattle.fields.specs.declared.fault.FieldFault.{FieldFault}
 use Rattle.fields.specs.declared.fault.FieldFault.TheVariants.{NoFormat}
 use Rattle.fields.specs.declared.field.Field.{Field}
@@ -22,7 +22,7 @@ found count n i = go (between 1 count n)
   where
     go : (b : Bool) → cond b (Ok (n - 1)) (Err NoFormat) ≡ Ok i → (b ≡ true) × (n - 1 ≡ i)
     go true h = (refl, cc)
-    go false h = let z : ◌≡◌ {A = ℕ} 0 1 = cc in absurd (omega arith)
+    go false h = cc
 
 module _ (fields : List Field) (i : ℕ) (d new : Field) (lt : i < length fields) where
   -- the field of a number is the one at its place
@@ -60,22 +60,17 @@ module _ (fields : List Field) (i : ℕ) (d new : Field) (lt : i < length fields
 abbrev seen : List Field → List Field → Table
 seen texts bars = record { texts = map seen_field texts; bars = map seen_field bars }
 
--- the answer of a named field, as the answer of its table
-abbrev pub Named : (Slot → Option FieldFault) → (Slot → Slot) → FieldName → Result (Unit {0}) FieldFault → Table → Table → Type 0
-Named why done name r before after =
-    Answered (cond (is_field name) (why (slot_of name before)) (Some NoFormat)) r before after (with_slot name (done (slot_of name before)) before)
-
 module _ (texts bars : List Field) (i n : ℕ) (d new : Field) (name : FieldName) (why : Slot → Option FieldFault) (done : Slot → Slot) (r : Result (Unit {0}) FieldFault) where
   pub in_texts : i < length texts → name ≡ Text n → Ok i ≡ place_of text_fields n
       → Answered (why (seen_field (get_or texts i d))) r (seen_field (get_or texts i d)) (seen_field new) (done (seen_field (get_or texts i d)))
-      → Named why done name r (seen texts bars) (seen (set texts i new) bars)
+      → Updated why done name r (seen texts bars) (seen (set texts i new) bars)
   in_texts lt is at h =
-      subst (λ m. Named why done m r (seen texts bars) (seen (set texts i new) bars)) (sym is)
+      subst (λ m. Updated why done m r (seen texts bars) (seen (set texts i new) bars)) (sym is)
       (under (λ l. record { texts = l; bars = map seen_field bars }) _ r _ _ _ (numbered texts i d new lt text_fields n why done r (sym at) h))
 
   pub in_bars : i < length bars → name ≡ Bar n → Ok i ≡ place_of bar_fields n
       → Answered (why (seen_field (get_or bars i d))) r (seen_field (get_or bars i d)) (seen_field new) (done (seen_field (get_or bars i d)))
-      → Named why done name r (seen texts bars) (seen texts (set bars i new))
+      → Updated why done name r (seen texts bars) (seen texts (set bars i new))
   in_bars lt is at h =
-      subst (λ m. Named why done m r (seen texts bars) (seen texts (set bars i new))) (sym is)
+      subst (λ m. Updated why done m r (seen texts bars) (seen texts (set bars i new))) (sym is)
       (under (λ l. record { texts = map seen_field texts; bars = l }) _ r _ _ _ (numbered bars i d new lt bar_fields n why done r (sym at) h))

@@ -4,7 +4,8 @@
 --   Slot         a field: its format, where it has one, and its text; a field with an empty text has no text
 --   seen_links, seen_format, seen_field   what the records of the code mean
 --   link_taken ns n   a field with the links ns takes n as one more: there is room, and n is the number of a link string
-use Rattle.std.specs.Prelude.{ℕ, Bool, false, cond, List, [], length, take, ℤ, Some, None, Option, nat_lt}
+use Rattle.std.specs.Prelude.{ℕ, Bool, false, cond, List, [], length, ℤ, Some, None, Option, nat_lt}
+use Rattle.fixedvec.specs.Items.{items}
 use Rattle.texts.specs.Contents.{contents}
 use Rattle.texts.specs.declared.checks.Check.{Check}
 use Rattle.fields.specs.Counts.{most_links, is_link}
@@ -27,7 +28,7 @@ pub record Slot : Type 0 where
   pub text : List ℕ
 
 abbrev pub seen_links : Links → List ℕ
-seen_links l = take l.len l.numbers
+seen_links l = items l.numbers
 
 abbrev pub seen_format : Format → Layout
 seen_format f = record { x = f.x; y = f.y; check = f.check; step = f.step; kept = f.kept; links = seen_links f.links; kind = f.kind }

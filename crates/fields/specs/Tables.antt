@@ -9,7 +9,10 @@
 --   refusal_of r      the reason that the answer r gives, if it refuses
 --   Answered why r before after done   the answer r of a call that may refuse: where it is Ok, there is no reason why to
 --                     refuse, and all is left as done says; where it is an error, that is the reason, and nothing has changed
-use Rattle.std.specs.Prelude.{◌≡◌, ℕ, ◌-◌, Bool, true, false, cond, List, [], ◌∷◌, map, replicate, Some, None, Ok, Err, Option, Result, slice_index_or, slice_set}
+--   Updated why done name r before after   the same where it is the field of that name that may refuse, by why, or is left as
+--                     done says; a name without a field has no format
+use Rattle.std.specs.Prelude.{◌≡◌, ℕ, ◌-◌, Bool, ◌||◌, cond, List, map, replicate, Some, None, Ok, Err, Option, Result, slice_index_or, slice_set}
+use Rattle.std.specs.List.{list_any}
 use Rattle.limits.specs.Bytes.{between}
 use Rattle.fields.specs.Counts.{text_fields, bar_fields}
 use Rattle.fields.specs.Records.{Slot, seen_field, blank_slot}
@@ -49,11 +52,10 @@ abbrev pub each_slot : (Slot → Slot) → Table → Table
 each_slot f t = record { texts = map f t.texts; bars = map f t.bars }
 
 abbrev pub some_slot : (Slot → Bool) → List Slot → Bool
-some_slot p [] = false
-some_slot p (s ∷ ss) = cond (p s) true (some_slot p ss)
+some_slot = list_any
 
 abbrev pub any_slot : (Slot → Bool) → Table → Bool
-any_slot p t = cond (some_slot p t.texts) true (some_slot p t.bars)
+any_slot p t = some_slot p t.texts || some_slot p t.bars
 
 abbrev pub refusal_of : Result (Unit {0}) FieldFault → Option FieldFault
 refusal_of (Ok x) = None
@@ -62,3 +64,7 @@ refusal_of (Err e) = Some e
 abbrev pub Answered : {View : Type 0} → Option FieldFault → Result (Unit {0}) FieldFault → View → View → View → Type 0
 Answered why (Ok x) before after done = (why ≡ None) × (after ≡ done)
 Answered why (Err e) before after done = (why ≡ Some e) × (after ≡ before)
+
+abbrev pub Updated : (Slot → Option FieldFault) → (Slot → Slot) → FieldName → Result (Unit {0}) FieldFault → Table → Table → Type 0
+Updated why done name r before after =
+    Answered (cond (is_field name) (why (slot_of name before)) (Some NoFormat)) r before after (with_slot name (done (slot_of name before)) before)

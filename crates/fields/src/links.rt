@@ -1,6 +1,9 @@
 // The links of a field: up to four numbers of link strings, in the order in which the strings are joined.
-ghost use Rattle.std.specs.Prelude.{◌≡◌, ◌≤◌, length};
-ghost use Rattle.fields.specs.Counts.{most_links, LinksBelow};
+ghost use Rattle.std.specs.Prelude.{length};
+ghost use Rattle.fixedvec.specs.Items.{items};
+ghost use Rattle.fields.specs.Counts.{LinksBelow};
+
+use fixedvec::FixedVec;
 
 pub const MOST_LINKS: usize = 4;
 
@@ -9,11 +12,17 @@ pub const LAST_LINK: u8 = 8;
 
 #[derive(Clone, Copy)]
 pub struct Links {
-    pub(crate) numbers: [u8; MOST_LINKS],
-    pub(crate) len: usize,
-    ghost sized: { length numbers ≡ most_links },
-    ghost within: { len ≤ most_links },
-    ghost admitted: { LinksBelow numbers len },
+    pub(crate) numbers: FixedVec<u8, MOST_LINKS>,
+    ghost admitted: { LinksBelow (items numbers) (length (items numbers)) },
+}
+
+// Why a link is not taken.
+#[derive(Clone, Copy, PartialEq, Eq, Debug)]
+pub enum LinkFault {
+    // No link string has the number.
+    NoString,
+    // A field has no more than four.
+    Fifth,
 }
 
 pub mod making;

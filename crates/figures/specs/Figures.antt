@@ -3,6 +3,7 @@
 --   figures     the table
 --   AllHold fs  the two of each figure are equal
 use Rattle.std.specs.Prelude.{◌≡◌, ℕ, List, [], ◌∷◌, pos, negsuc, Some, codes}
+use Rattle.std.specs.List.{AllByRecursion}
 use Rattle.fields.specs.Linking.{joined_text}
 use Rattle.picture.specs.Places.{dot_of}
 use Rattle.texts.specs.Checks.{check_character}
@@ -41,5 +42,4 @@ figures =
     ∷ []
 
 abbrev pub AllHold : List Figure → Type 0
-AllHold [] = Unit {0}
-AllHold (f ∷ fs) = (f.given ≡ f.wanted) × AllHold fs
+AllHold = AllByRecursion (λ f. f.given ≡ f.wanted)

@@ -1,3 +1,3 @@
 pub mod Leading
+pub mod Onward
 pub mod Placing
-pub mod Rows

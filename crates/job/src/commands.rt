@@ -1,7 +1,10 @@
-// Reads the parts of each command, from the place behind its letters.
-ghost use Rattle.std.specs.Prelude.{◌≡◌};
-ghost use Rattle.jobgroups.specs.Commands.{plain, command_at};
-ghost use Rattle.jobgroups.specs.declared.letters.Letters.TheVariants.{D, C, Pc, Xb, RcLinks, Rc, Rb, Lc, Xr, Xs, Xo, Xp, Xq, J1, Ws, Wr};
+// Takes the parts of each command, from the place behind its letters.
+ghost use Rattle.std.specs.Prelude.{◌≡◌, [], IfOk};
+ghost use Rattle.jobparts.specs.Cursors.{Takes};
+ghost use Rattle.jobparts.specs.Grammar.{groups_at};
+ghost use Rattle.jobgroups.specs.Commands.{text_format_slots, bar_format_slots, field_text_slots, line_slots, area_slots, issue_slots, recall_slots, plain_of};
+ghost use Rattle.jobgroups.specs.Table.{parts_of};
+ghost use Rattle.jobgroups.specs.declared.letters.Letters.TheVariants.{Pc, Xb, Rc, Rb, Lc, Xr, Xs, Xq, J1};
 
 use jobgroups::command::{
     Area, BarFormat, Command, Ends, FieldText, Issue, Line, Recall, TextFormat,
@@ -11,170 +14,136 @@ use jobgroups::groups::{
     issue_count, issue_setup, lettering_at, line_ends, line_shape, magnification_at, point_at,
     sizes_at, text_field,
 };
+use jobgroups::letters::Letters;
+use jobparts::cursor::Cursor;
 use jobparts::part::{List, Wrong};
-use jobparts::take::{byte, end};
-use jobparts::text::{list_part, text};
 
 // A label takes at most so many link strings behind the first.
 const FURTHER_STRINGS: usize = 7;
 
-pub(crate) fn size<'a>(body: &'a [u8], at: usize) -> Result<Command<'a>, Wrong>
-    ensures { plain result ≡ command_at D body.now at }
+fn text_format<'a>(cursor: &mut Cursor<'a>) -> Result<TextFormat<'a>, Wrong>
+    ensures { Takes text_format_slots result cursor.old cursor.new (groups_at (parts_of Pc) []) }
 {
-    let (sizes, at) = sizes_at(body, at)?;
-    end(body, at)?;
-    Ok(Command::SetSize(sizes))
-}
-
-pub(crate) fn clear<'a>(body: &'a [u8], at: usize) -> Result<Command<'a>, Wrong>
-    ensures { plain result ≡ command_at C body.now at }
-{
-    end(body, at)?;
-    Ok(Command::Clear)
-}
-
-pub(crate) fn text_format<'a>(body: &'a [u8], at: usize) -> Result<Command<'a>, Wrong>
-    ensures { plain result ≡ command_at Pc body.now at }
-{
-    let (field, at) = text_field(body, at)?;
-    let (origin, at) = point_at(body, at)?;
-    let (magnification, at) = magnification_at(body, at)?;
-    let (lettering, at) = lettering_at(body, at)?;
-    let (check, at) = check_figure(body, at)?;
-    let (extras, at) = extras_at(body, at)?;
-    end(body, at)?;
-    Ok(Command::FormatText(TextFormat {
+    let field = text_field(cursor)?;
+    let origin = point_at(cursor)?;
+    let magnification = magnification_at(cursor)?;
+    let lettering = lettering_at(cursor)?;
+    let check = check_figure(cursor)?;
+    let extras = extras_at(cursor)?;
+    Ok(TextFormat {
         field,
         origin,
         magnification,
         lettering,
         check,
         extras,
-    }))
+    })
 }
 
-pub(crate) fn field_text<'a>(body: &'a [u8], at: usize) -> Result<Command<'a>, Wrong>
-    ensures { plain result ≡ command_at Rc body.now at }
+fn field_text<'a>(cursor: &mut Cursor<'a>) -> Result<FieldText<'a>, Wrong>
+    ensures { Takes field_text_slots result cursor.old cursor.new (groups_at (parts_of Rc) []) }
 {
-    let (field, at) = text_field(body, at)?;
-    let (text, at) = text(body, at)?;
-    end(body, at)?;
-    Ok(Command::SetText(FieldText { field, text }))
+    let field = text_field(cursor)?;
+    let text = cursor.text()?;
+    Ok(FieldText { field, text })
 }
 
-pub(crate) fn bar_format<'a>(body: &'a [u8], at: usize) -> Result<Command<'a>, Wrong>
-    ensures { plain result ≡ command_at Xb body.now at }
+fn bar_format<'a>(cursor: &mut Cursor<'a>) -> Result<BarFormat<'a>, Wrong>
+    ensures { Takes bar_format_slots result cursor.old cursor.new (groups_at (parts_of Xb) []) }
 {
-    let (field, at) = bar_field(body, at)?;
-    let (origin, at) = point_at(body, at)?;
-    let (code, at) = bar_type(body, at)?;
-    let (widths, at) = bar_widths(body, at)?;
-    let (height, at) = bar_height(body, at)?;
-    let (extras, at) = extras_at(body, at)?;
-    end(body, at)?;
-    Ok(Command::FormatBar(BarFormat {
+    let field = bar_field(cursor)?;
+    let origin = point_at(cursor)?;
+    let code = bar_type(cursor)?;
+    let widths = bar_widths(cursor)?;
+    let height = bar_height(cursor)?;
+    let extras = extras_at(cursor)?;
+    Ok(BarFormat {
         field,
         origin,
         code,
         widths,
         height,
         extras,
-    }))
+    })
 }
 
-pub(crate) fn bar_text<'a>(body: &'a [u8], at: usize) -> Result<Command<'a>, Wrong>
-    ensures { plain result ≡ command_at Rb body.now at }
+// Kept so: one function for both texts would take the field's reader as a closure, for two lines.
+fn bar_text<'a>(cursor: &mut Cursor<'a>) -> Result<FieldText<'a>, Wrong>
+    ensures { Takes field_text_slots result cursor.old cursor.new (groups_at (parts_of Rb) []) }
 {
-    let (field, at) = bar_field(body, at)?;
-    let (text, at) = text(body, at)?;
-    end(body, at)?;
-    Ok(Command::SetBar(FieldText { field, text }))
+    let field = bar_field(cursor)?;
+    let text = cursor.text()?;
+    Ok(FieldText { field, text })
 }
 
-pub(crate) fn link_strings<'a>(body: &'a [u8], at: usize) -> Result<Command<'a>, Wrong>
-    ensures { plain result ≡ command_at RcLinks body.now at }
+fn line<'a>(cursor: &mut Cursor<'a>) -> Result<Line<'a>, Wrong>
+    ensures { Takes line_slots result cursor.old cursor.new (groups_at (parts_of Lc) []) }
 {
-    let (strings, at) = list_part(body, at, List::Strings, FURTHER_STRINGS)?;
-    end(body, at)?;
-    Ok(Command::SetLinks(strings))
+    let ends = line_ends(cursor)?;
+    let shape = line_shape(cursor)?;
+    Ok(Line { ends, shape })
 }
 
-pub(crate) fn line<'a>(body: &'a [u8], at: usize) -> Result<Command<'a>, Wrong>
-    ensures { plain result ≡ command_at Lc body.now at }
+fn area<'a>(cursor: &mut Cursor<'a>) -> Result<Area<'a>, Wrong>
+    ensures { Takes area_slots result cursor.old cursor.new (groups_at (parts_of Xr) []) }
 {
-    let (ends, at) = line_ends(body, at)?;
-    let (shape, at) = line_shape(body, at)?;
-    end(body, at)?;
-    Ok(Command::DrawLine(Line { ends, shape }))
-}
-
-pub(crate) fn area<'a>(body: &'a [u8], at: usize) -> Result<Command<'a>, Wrong>
-    ensures { plain result ≡ command_at Xr body.now at }
-{
-    let at = byte(body, at, b';')?;
-    let (from, at) = point_at(body, at)?;
-    let at = byte(body, at, b',')?;
-    let (to, at) = point_at(body, at)?;
-    let (action, at) = comma_letter(body, at, b'A', b'B')?;
-    end(body, at)?;
-    Ok(Command::MarkArea(Area {
+    cursor.byte(b';')?;
+    let from = point_at(cursor)?;
+    cursor.byte(b',')?;
+    let to = point_at(cursor)?;
+    let action = comma_letter(cursor, b'A', b'B')?;
+    Ok(Area {
         ends: Ends { from, to },
         action,
-    }))
+    })
 }
 
-pub(crate) fn issue<'a>(body: &'a [u8], at: usize) -> Result<Command<'a>, Wrong>
-    ensures { plain result ≡ command_at Xs body.now at }
+fn issue<'a>(cursor: &mut Cursor<'a>) -> Result<Issue<'a>, Wrong>
+    ensures { Takes issue_slots result cursor.old cursor.new (groups_at (parts_of Xs) []) }
 {
-    let (count, at) = issue_count(body, at)?;
-    let (setup, at) = issue_setup(body, at)?;
-    end(body, at)?;
-    Ok(Command::PrintIssue(Issue { count, setup }))
+    let count = issue_count(cursor)?;
+    let setup = issue_setup(cursor)?;
+    Ok(Issue { count, setup })
 }
 
-pub(crate) fn begin_saving<'a>(body: &'a [u8], at: usize) -> Result<Command<'a>, Wrong>
-    ensures { plain result ≡ command_at Xo body.now at }
+fn recall<'a>(cursor: &mut Cursor<'a>) -> Result<Recall<'a>, Wrong>
+    ensures { Takes recall_slots result cursor.old cursor.new (groups_at (parts_of Xq) []) }
 {
-    let (form, at) = form_at(body, at)?;
-    end(body, at)?;
-    Ok(Command::BeginSaving(form))
+    let form = form_at(cursor)?;
+    let target = comma_letter(cursor, b'L', b'M')?;
+    Ok(Recall { form, target })
 }
 
-pub(crate) fn end_saving<'a>(body: &'a [u8], at: usize) -> Result<Command<'a>, Wrong>
-    ensures { plain result ≡ command_at Xp body.now at }
+fn store_b(cursor: &mut Cursor<'_>) -> Result<(), Wrong>
+    ensures { Takes (λ _. []) result cursor.old cursor.new (groups_at (parts_of J1) []) }
 {
-    end(body, at)?;
-    Ok(Command::EndSaving)
+    cursor.byte(b';')?;
+    cursor.byte(b'B')
 }
 
-pub(crate) fn recall<'a>(body: &'a [u8], at: usize) -> Result<Command<'a>, Wrong>
-    ensures { plain result ≡ command_at Xq body.now at }
+// The command that the letters tell, with all its parts.
+pub(crate) fn command<'a>(letters: Letters, cursor: &mut Cursor<'a>) -> Result<Command<'a>, Wrong>
+    ensures parts { Takes (λ c. (plain_of c).parts) result cursor.old cursor.new (groups_at (parts_of letters) []) }
+    ensures letters { IfOk result (λ c. (plain_of c).letters ≡ letters) }
 {
-    let (form, at) = form_at(body, at)?;
-    let (target, at) = comma_letter(body, at, b'L', b'M')?;
-    end(body, at)?;
-    Ok(Command::RecallForm(Recall { form, target }))
-}
-
-pub(crate) fn empty_store<'a>(body: &'a [u8], at: usize) -> Result<Command<'a>, Wrong>
-    ensures { plain result ≡ command_at J1 body.now at }
-{
-    let at = byte(body, at, b';')?;
-    let at = byte(body, at, b'B')?;
-    end(body, at)?;
-    Ok(Command::EmptyStore)
-}
-
-pub(crate) fn write_status<'a>(body: &'a [u8], at: usize) -> Result<Command<'a>, Wrong>
-    ensures { plain result ≡ command_at Ws body.now at }
-{
-    end(body, at)?;
-    Ok(Command::WriteStatus)
-}
-
-pub(crate) fn reset<'a>(body: &'a [u8], at: usize) -> Result<Command<'a>, Wrong>
-    ensures { plain result ≡ command_at Wr body.now at }
-{
-    end(body, at)?;
-    Ok(Command::Reset)
+    match letters {
+        Letters::D => sizes_at(cursor).map(Command::SetSize),
+        Letters::C => Ok(Command::Clear),
+        Letters::Pc => text_format(cursor).map(Command::FormatText),
+        Letters::Xb => bar_format(cursor).map(Command::FormatBar),
+        Letters::RcLinks => cursor
+            .list_part(List::Strings, FURTHER_STRINGS)
+            .map(Command::SetLinks),
+        Letters::Rc => field_text(cursor).map(Command::SetText),
+        Letters::Rb => bar_text(cursor).map(Command::SetBar),
+        Letters::Lc => line(cursor).map(Command::DrawLine),
+        Letters::Xr => area(cursor).map(Command::MarkArea),
+        Letters::Xs => issue(cursor).map(Command::PrintIssue),
+        Letters::Xo => form_at(cursor).map(Command::BeginSaving),
+        Letters::Xp => Ok(Command::EndSaving),
+        Letters::Xq => recall(cursor).map(Command::RecallForm),
+        Letters::J1 => store_b(cursor).map(|()| Command::EmptyStore),
+        Letters::Ws => Ok(Command::WriteStatus),
+        Letters::Wr => Ok(Command::Reset),
+    }
 }

@@ -13,18 +13,20 @@ pub struct ReadFault {
     pub next: usize,
 }
 
-// The same refusal among those of a station.
-pub fn refusal_of(refusal: ReadRefusal) -> Refusal
-    ensures { result ≡ refusal_of refusal }
-{
-    match refusal {
-        ReadRefusal::OutOfBounds => Refusal::JobBounds,
-        ReadRefusal::AtEnd => Refusal::JobEnd,
-        ReadRefusal::NoEscape => Refusal::NoEscape,
-        ReadRefusal::NoEnding => Refusal::NoEnding,
-        ReadRefusal::UnknownLetters => Refusal::UnknownLetters,
-        ReadRefusal::WrongByte => Refusal::WrongByte,
-        ReadRefusal::NotAdmitted => Refusal::NotAdmitted,
+// The same among the refusals of a station.
+impl From<ReadFault> for Refusal {
+    ghost from_gives = { λ e r. r ≡ refusal_of e.refusal };
+
+    fn from(e: ReadFault) -> Refusal {
+        match e.refusal {
+            ReadRefusal::OutOfBounds => Refusal::JobBounds,
+            ReadRefusal::AtEnd => Refusal::JobEnd,
+            ReadRefusal::NoEscape => Refusal::NoEscape,
+            ReadRefusal::NoEnding => Refusal::NoEnding,
+            ReadRefusal::UnknownLetters => Refusal::UnknownLetters,
+            ReadRefusal::WrongByte => Refusal::WrongByte,
+            ReadRefusal::NotAdmitted => Refusal::NotAdmitted,
+        }
     }
 }
 
@@ -33,7 +35,7 @@ impl From<ReadFault> for Fault {
 
     fn from(e: ReadFault) -> Fault {
         Fault {
-            refusal: refusal_of(e.refusal),
+            refusal: e.into(),
             form: 0,
             place: e.place,
             next: e.next,

@@ -1,13 +1,12 @@
 // Reads the command at a place of a job.
 ghost use Rattle.std.specs.Prelude.{◌≡◌, ◌<◌, ◌≤◌, length, IfOk};
-ghost use Rattle.job.specs.Reading.{before, next_escape, open_at, begin_at, ending_at, placed, read_at, plain_read, plain_answer, answer_of, next_of};
-ghost use Rattle.jobgroups.specs.Commands.{plain};
+ghost use Rattle.job.specs.Reading.{before, next_escape, open_at, begin_at, ending_at, read_at, plain_read, plain_answer, answer_of, next_of};
 
 use crate::dispatch::parse;
 use crate::fault::ReadFault;
 use jobgroups::command::Command;
 use jobparts::bytes::{first, rest_at, stands_at};
-use jobparts::part::{ReadRefusal, Wrong};
+use jobparts::part::ReadRefusal;
 use limits::sizes::{LONGEST_COMMAND, LONGEST_JOB};
 
 const ESC: u8 = 0x1b;
@@ -21,11 +20,7 @@ pub fn count_before(bytes: &[u8], b: u8) -> usize
     ensures count { result ≡ before b bytes.now }
     ensures within { result ≤ length bytes.now }
 {
-    let mut n = 0;
-    while n < bytes.len() && bytes[n] != b {
-        n += 1;
-    }
-    n
+    bytes.iter().position(|x| *x == b).unwrap_or(bytes.len())
 }
 
 // The place of the first ESC behind a place, or the job's end.
@@ -54,21 +49,19 @@ pub fn open(job: &[u8], at: usize) -> Result<(), ReadFault>
 fn begin(job: &[u8], at: usize) -> Result<(), ReadFault>
     ensures { result ≡ begin_at job.now at }
 {
-    if at >= job.len() {
-        return Err(ReadFault {
-            refusal: ReadRefusal::AtEnd,
-            place: at,
-            next: at,
-        });
-    }
-    if job[at] != ESC {
-        return Err(ReadFault {
+    match job.get(at) {
+        Some(&ESC) => Ok(()),
+        Some(_) => Err(ReadFault {
             refusal: ReadRefusal::NoEscape,
             place: at,
             next: next_escape(job, at),
-        });
+        }),
+        None => Err(ReadFault {
+            refusal: ReadRefusal::AtEnd,
+            place: at,
+            next: at,
+        }),
     }
-    Ok(())
 }
 
 // The place of the LF that ends the command at the place: the first, followed by NUL, both near enough.
@@ -89,23 +82,7 @@ fn ending(job: &[u8], at: usize) -> Result<usize, ReadFault>
     Ok(at + line)
 }
 
-// A body that is read or not, with the place behind its command.
-fn place<'a>(
-    next: usize,
-    command: Result<Command<'a>, Wrong>,
-) -> Result<(Command<'a>, usize), ReadFault>
-    ensures { plain_read result ≡ placed next (plain command.entry) }
-{
-    match command {
-        Ok(c) => Ok((c, next)),
-        Err(w) => Err(ReadFault {
-            refusal: w.refusal,
-            place: w.place,
-            next,
-        }),
-    }
-}
-
+// Kept so: a reader takes a job and a place, as its callers have them; behind the ESC a cursor takes their place.
 // The command at a place and the place behind it.
 fn read_on<'a>(job: &'a [u8], at: usize) -> Result<(Command<'a>, usize), ReadFault>
     ensures { plain_read result ≡ read_at job.now at }
@@ -113,7 +90,16 @@ fn read_on<'a>(job: &'a [u8], at: usize) -> Result<(Command<'a>, usize), ReadFau
     open(job, at)?;
     begin(job, at)?;
     let end = ending(job, at)?;
-    place(end + 2, parse(first(job, end), at, at + 1))
+    let next = end + 2;
+    // Kept so: by map_err and `?` a command of some 400 bytes is moved once more than it has to be.
+    match parse(first(job, end), at, at + 1) {
+        Ok(command) => Ok((command, next)),
+        Err(wrong) => Err(ReadFault {
+            refusal: wrong.refusal,
+            place: wrong.place,
+            next,
+        }),
+    }
 }
 
 // The command at a place or why there is none, and the place where reading goes on.

@@ -2,10 +2,10 @@
 // A case is a place, a number of bytes to add behind, and a job in which \hh is the byte with that number.
 #![tactic(auto)]
 
-ghost use Rattle.std.specs.Prelude.{◌<◌};
+ghost use Rattle.std.specs.Prelude.{◌≡◌, ◌+◌, ◌-◌, ◌<◌, length};
+ghost use Rattle.job.specs.Reading.{before};
 
 use faults::Fault;
-use job::dispatch::letters_of;
 use job::fault::ReadFault;
 use job::read::{count_before, read};
 use jobgroups::command::Command;
@@ -27,18 +27,20 @@ fn hex(b: u8) -> u8
 }
 
 // Adds the job that a case writes.
-fn decode(text: &[u8], job: &mut Vec<u8>) -> Result<(), AllocError> {
-    let mut i = 0;
-    while i < text.len() {
-        if text[i] == b'\\' && text.len() - i > 2 {
-            job.push(hex(text[i + 1]) * 16 + hex(text[i + 2]))?;
-            i += 3;
-        } else {
-            job.push(text[i])?;
-            i += 1;
+fn decode(mut text: &[u8], job: &mut Vec<u8>) -> Result<(), AllocError> {
+    loop {
+        match text {
+            [b'\\', high, low, rest @ ..] => {
+                job.push(hex(*high) * 16 + hex(*low))?;
+                text = rest;
+            }
+            [b, rest @ ..] => {
+                job.push(*b)?;
+                text = rest;
+            }
+            [] => return Ok(()),
         }
     }
-    Ok(())
 }
 
 // Adds so many bytes that are no ESC.
@@ -52,12 +54,8 @@ fn pad(job: &mut Vec<u8>, count: u64) -> Result<(), AllocError> {
 fn show(rt: &HostRuntime, answer: Result<Command<'_>, ReadFault>, next: usize) -> io::Result<()> {
     match answer {
         Ok(command) => {
-            print!(rt; "ok ")?;
-            for b in letters_of(letters(command)) {
-                let c = *b as char;
-                print!(rt; "{c}")?;
-            }
-            println!(rt; " {next}")
+            let letters = letters(command);
+            println!(rt; "ok {letters} {next}")
         }
         Err(fault) => {
             let Fault {
@@ -72,15 +70,21 @@ fn show(rt: &HostRuntime, answer: Result<Command<'_>, ReadFault>, next: usize) -
     }
 }
 
+// What stands before the first of a byte, and what behind it.
+fn cut(bytes: &[u8], b: u8) -> (&[u8], &[u8])
+    ensures { length result.1.now ≡ length bytes.now - (before b bytes.now + 1) }
+{
+    let n = count_before(bytes, b);
+    (first(bytes, n), rest_at(bytes, n + 1))
+}
+
 fn one(rt: &HostRuntime, line: &[u8]) -> io::Result<()> {
-    let a = count_before(line, b' ');
-    let at = number_of(first(line, a)) as usize;
-    let rest = rest_at(line, a + 1);
-    let b = count_before(rest, b' ');
+    let (at, rest) = cut(line, b' ');
+    let (padding, text) = cut(rest, b' ');
     let mut job = Vec::new(rt.alloc());
-    decode(rest_at(rest, b + 1), &mut job)?;
-    pad(&mut job, number_of(first(rest, b)))?;
-    let (answer, next) = read(job.as_slice(), at);
+    decode(text, &mut job)?;
+    pad(&mut job, number_of(padding))?;
+    let (answer, next) = read(job.as_slice(), number_of(at) as usize);
     show(rt, answer, next)
 }
 
@@ -88,14 +92,10 @@ fn main(rt: HostRuntime) -> io::Result<()> {
     let mut cases = Vec::new(rt.alloc());
     rt.stdin().read_to_end(&mut cases)?;
     let mut rest = cases.as_slice();
-    // No more lines than bytes.
-    for _ in 0..cases.len() {
-        if rest.len() == 0 {
-            break;
-        }
-        let n = count_before(rest, b'\n');
-        one(&rt, first(rest, n))?;
-        rest = rest_at(rest, n + 1);
+    while !rest.is_empty() {
+        let (line, behind) = cut(rest, b'\n');
+        one(&rt, line)?;
+        rest = behind;
     }
     Ok(())
 }

@@ -4,7 +4,7 @@
 --   command_at c  what the table says of a body of the command c whose parts begin at a place
 use Rattle.std.specs.Prelude.{ℕ, List, [], ◌∷◌, ◌++◌, Ok, Err, Result}
 use Rattle.jobparts.specs.Grammar.{row_at}
-use Rattle.jobparts.specs.Slots.{Slot, Got, then, slot_of, option_slot, source_slot}
+use Rattle.jobparts.specs.Slots.{Slot, then, slot_of, option_slot, source_slot}
 use Rattle.jobparts.specs.declared.part.Wrong.{Wrong}
 use Rattle.jobgroups.specs.Table.{parts_of}
 use Rattle.jobgroups.specs.declared.letters.Letters.{Letters}
@@ -24,6 +24,13 @@ use Rattle.jobgroups.specs.declared.command.Shape.{Shape}
 use Rattle.jobgroups.specs.declared.command.Count.{Count}
 use Rattle.jobgroups.specs.declared.command.Setup.{Setup}
 use Rattle.jobgroups.specs.declared.command.Form.{Form}
+use Rattle.jobgroups.specs.declared.command.TextFormat.{TextFormat}
+use Rattle.jobgroups.specs.declared.command.BarFormat.{BarFormat}
+use Rattle.jobgroups.specs.declared.command.FieldText.{FieldText}
+use Rattle.jobgroups.specs.declared.command.Line.{Line}
+use Rattle.jobgroups.specs.declared.command.Area.{Area}
+use Rattle.jobgroups.specs.declared.command.Issue.{Issue}
+use Rattle.jobgroups.specs.declared.command.Recall.{Recall}
 
 pub record Plain : Type 0 where
   pub letters : Letters
@@ -70,23 +77,43 @@ abbrev pub setup_slots : Setup → List Slot
 setup_slots s =
     slot_of s.sensor ∷ slot_of s.mode ∷ slot_of s.speed ∷ slot_of s.ribbon ∷ slot_of s.rotation ∷ slot_of s.response ∷ []
 
+abbrev pub text_format_slots : TextFormat → List Slot
+text_format_slots f =
+    slot_of f.field ∷ (point_slots f.origin ++ (magnification_slots f.magnification ++ (lettering_slots f.lettering ++ option_slot f.check ∷ extras_slots f.extras)))
+
+abbrev pub bar_format_slots : BarFormat → List Slot
+bar_format_slots f =
+    slot_of f.field ∷ (point_slots f.origin ++ (type_slots f.code ++ (widths_slots f.widths ++ (height_slots f.height ++ extras_slots f.extras))))
+
+abbrev pub field_text_slots : FieldText → List Slot
+field_text_slots t = slot_of t.field ∷ slot_of t.text ∷ []
+
+abbrev pub line_slots : Line → List Slot
+line_slots l = ends_slots l.ends ++ shape_slots l.shape
+
+abbrev pub area_slots : Area → List Slot
+area_slots a = ends_slots a.ends ++ slot_of a.action ∷ []
+
+abbrev pub issue_slots : Issue → List Slot
+issue_slots i = count_slots i.count ++ setup_slots i.setup
+
+abbrev pub recall_slots : Recall → List Slot
+recall_slots r = form_slots r.form ++ slot_of r.target ∷ []
+
 abbrev pub plain_of : Command → Plain
 plain_of (SetSize s) = record { letters = D; parts = size_slots s }
 plain_of Clear = record { letters = C; parts = [] }
-plain_of (FormatText f) =
-    record { letters = Pc; parts = slot_of f.field ∷ (point_slots f.origin ++ (magnification_slots f.magnification ++ (lettering_slots f.lettering ++ option_slot f.check ∷ extras_slots f.extras))) }
-plain_of (FormatBar f) =
-    record { letters = Xb; parts = slot_of f.field ∷ (point_slots f.origin ++ (type_slots f.code ++ (widths_slots f.widths ++ (height_slots f.height ++ extras_slots f.extras)))) }
+plain_of (FormatText f) = record { letters = Pc; parts = text_format_slots f }
+plain_of (FormatBar f) = record { letters = Xb; parts = bar_format_slots f }
 plain_of (SetLinks t) = record { letters = RcLinks; parts = slot_of t ∷ [] }
-plain_of (SetText t) = record { letters = Rc; parts = slot_of t.field ∷ slot_of t.text ∷ [] }
-plain_of (SetBar t) = record { letters = Rb; parts = slot_of t.field ∷ slot_of t.text ∷ [] }
-plain_of (DrawLine l) =
-    record { letters = Lc; parts = ends_slots l.ends ++ shape_slots l.shape }
-plain_of (MarkArea a) = record { letters = Xr; parts = ends_slots a.ends ++ slot_of a.action ∷ [] }
-plain_of (PrintIssue i) = record { letters = Xs; parts = count_slots i.count ++ setup_slots i.setup }
+plain_of (SetText t) = record { letters = Rc; parts = field_text_slots t }
+plain_of (SetBar t) = record { letters = Rb; parts = field_text_slots t }
+plain_of (DrawLine l) = record { letters = Lc; parts = line_slots l }
+plain_of (MarkArea a) = record { letters = Xr; parts = area_slots a }
+plain_of (PrintIssue i) = record { letters = Xs; parts = issue_slots i }
 plain_of (BeginSaving s) = record { letters = Xo; parts = form_slots s }
 plain_of EndSaving = record { letters = Xp; parts = [] }
-plain_of (RecallForm r) = record { letters = Xq; parts = form_slots r.form ++ slot_of r.target ∷ [] }
+plain_of (RecallForm r) = record { letters = Xq; parts = recall_slots r }
 plain_of EmptyStore = record { letters = J1; parts = [] }
 plain_of WriteStatus = record { letters = Ws; parts = [] }
 plain_of Reset = record { letters = Wr; parts = [] }
@@ -94,10 +121,6 @@ plain_of Reset = record { letters = Wr; parts = [] }
 abbrev pub plain : Result Command Wrong → Result Plain Wrong
 plain (Ok c) = Ok (plain_of c)
 plain (Err e) = Err e
-
-abbrev pub got : {X : Type 0} → (X → List Slot) → Result (X × ℕ) Wrong → Result Got Wrong
-got slots (Ok x) = Ok (slots x.0, x.1)
-got slots (Err e) = Err e
 
 abbrev pub command_at : Letters → List ℕ → ℕ → Result Plain Wrong
 command_at c body at = then (row_at (parts_of c) [] body at) (λ slots. Ok (record { letters = c; parts = slots }))

@@ -2,105 +2,90 @@
 ghost use Rattle.std.specs.Prelude.{◌≡◌, List, [], ◌∷◌, slice_index};
 ghost use Rattle.jobparts.specs.Grammar.{one_of, one_letter};
 ghost use Rattle.jobparts.specs.Items.{chosen_at};
-ghost use Rattle.jobparts.specs.Slots.{taken};
+ghost use Rattle.jobparts.specs.Cursors.{Takes};
+ghost use Rattle.jobparts.specs.Slots.{part_slots};
 ghost use Rattle.jobparts.specs.declared.part.Kind.TheVariants.{Digit, Capital};
 ghost use Rattle.jobgroups.specs.Table.{length_fits, check_fits, end_fits, line_ahead, not_above_pitch, fits_type, not_slanted};
 
-use jobparts::bytes::{rest_at, stands_at};
+use jobparts::bytes::rest_at;
+use jobparts::cursor::Cursor;
 use jobparts::part::{Kind, Part, Wrong};
-use jobparts::take::{admit, part};
-use jobparts::values::number_of;
 
 // A length lies within its limits, and the pitch is not below it.
+#[tactic(auto, unfolding(crate::specs::Table::length_fits))]
 pub(crate) fn length_fits(length: u64, pitch: u64) -> bool
     ensures { result ≡ length_fits length pitch }
 {
-    length >= 80 && length <= 500 && length <= pitch
+    (80..=500).contains(&length) && length <= pitch
 }
 
 // A length that fits the pitch.
-pub(crate) fn length_at<'a>(
-    body: &'a [u8],
-    at: usize,
-    pitch: &[u8],
-) -> Result<(Part<'a>, usize), Wrong>
-    ensures { taken result ≡ chosen_at Digit 4 not_above_pitch (pitch.now ∷ []) body.now at }
+#[tactic(auto, unfolding(jobparts::specs::Items::part_at))]
+pub(crate) fn length_at<'a>(cursor: &mut Cursor<'a>, pitch: Part<'_>) -> Result<Part<'a>, Wrong>
+    ensures { Takes part_slots result cursor.old cursor.new (chosen_at Digit 4 not_above_pitch (pitch.entry.bytes.now ∷ [])) }
 {
-    let (digits, next) = part(body, at, Kind::Digit, 4)?;
-    admit(length_fits(number_of(digits.bytes), number_of(pitch)), at)?;
-    Ok((digits, next))
+    let digits = cursor.part(Kind::Digit, 4)?;
+    digits.admitted(length_fits(digits.number(), pitch.number()))
 }
 
-// A rotation: 00, 11, 22 or 33.
-pub(crate) fn rotation<'a>(body: &'a [u8], at: usize) -> Result<(Part<'a>, usize), Wrong>
-    ensures { taken result ≡ chosen_at Digit 2 (one_of (0 ∷ 11 ∷ 22 ∷ 33 ∷ [])) [] body.now at }
+// So many digits that write one of some numbers.
+#[tactic(auto, unfolding(jobparts::specs::Items::part_at))]
+pub(crate) fn one_of<'a>(
+    cursor: &mut Cursor<'a>,
+    count: usize,
+    numbers: &[u64],
+) -> Result<Part<'a>, Wrong>
+    ensures { Takes part_slots result cursor.old cursor.new (chosen_at Digit count (one_of numbers.now) []) }
 {
-    let (digits, next) = part(body, at, Kind::Digit, 2)?;
-    let n = number_of(digits.bytes);
-    admit(n == 0 || n == 11 || n == 22 || n == 33, at)?;
-    Ok((digits, next))
-}
-
-// The type of a bar: 3 or 9.
-pub(crate) fn bar_kind<'a>(body: &'a [u8], at: usize) -> Result<(Part<'a>, usize), Wrong>
-    ensures { taken result ≡ chosen_at Digit 1 (one_of (3 ∷ 9 ∷ [])) [] body.now at }
-{
-    let (digit, next) = part(body, at, Kind::Digit, 1)?;
-    let n = number_of(digit.bytes);
-    admit(n == 3 || n == 9, at)?;
-    Ok((digit, next))
+    let digits = cursor.part(Kind::Digit, count)?;
+    digits.admitted(numbers.contains(&digits.number()))
 }
 
 // A bar has no check, 1, or modulus 43, 3, which only the type 3 has.
+#[tactic(auto, unfolding(crate::specs::Table::check_fits))]
 pub(crate) fn check_fits(check: u64, kind: u64) -> bool
     ensures { result ≡ check_fits check kind }
 {
-    check == 1 || check == 3 && kind == 3
+    matches!((check, kind), (1, _) | (3, 3))
 }
 
 // The check of a bar: none, or modulus 43, which only the type 3 has.
-pub(crate) fn bar_check<'a>(
-    body: &'a [u8],
-    at: usize,
-    kind: &[u8],
-) -> Result<(Part<'a>, usize), Wrong>
-    ensures { taken result ≡ chosen_at Digit 1 fits_type (kind.now ∷ []) body.now at }
+#[tactic(auto, unfolding(jobparts::specs::Items::part_at))]
+pub(crate) fn bar_check<'a>(cursor: &mut Cursor<'a>, kind: Part<'_>) -> Result<Part<'a>, Wrong>
+    ensures { Takes part_slots result cursor.old cursor.new (chosen_at Digit 1 fits_type (kind.entry.bytes.now ∷ [])) }
 {
-    let (digit, next) = part(body, at, Kind::Digit, 1)?;
-    admit(check_fits(number_of(digit.bytes), number_of(kind)), at)?;
-    Ok((digit, next))
+    let digit = cursor.part(Kind::Digit, 1)?;
+    digit.admitted(check_fits(digit.number(), kind.number()))
 }
 
 // The first byte; NUL where there is none.
+// Kept so: its definition answers 0 past the end, and no part that is asked is empty.
 pub fn first_byte(bytes: &[u8]) -> u8
     ensures { result ≡ slice_index bytes.now 0 }
 {
-    if bytes.len() > 0 { bytes[0] } else { 0 }
+    bytes.first().copied().unwrap_or(0)
 }
 
 // One of two capital letters.
-pub(crate) fn letter<'a>(
-    body: &'a [u8],
-    at: usize,
-    one: u8,
-    other: u8,
-) -> Result<(Part<'a>, usize), Wrong>
-    ensures { taken result ≡ chosen_at Capital 1 (one_letter (one ∷ other ∷ [])) [] body.now at }
+#[tactic(auto, unfolding(jobparts::specs::Items::part_at))]
+pub(crate) fn letter<'a>(cursor: &mut Cursor<'a>, one: u8, other: u8) -> Result<Part<'a>, Wrong>
+    ensures { Takes part_slots result cursor.old cursor.new (chosen_at Capital 1 (one_letter (one ∷ other ∷ [])) []) }
 {
-    let (capital, next) = part(body, at, Kind::Capital, 1)?;
+    let capital = cursor.part(Kind::Capital, 1)?;
     let b = first_byte(capital.bytes);
-    admit(b == one || b == other, at)?;
-    Ok((capital, next))
+    capital.admitted([one, other].contains(&b))
 }
 
 // Whether a line, and no rectangle, is told of behind its ends.
+#[tactic(auto, unfolding(crate::specs::Table::line_ahead))]
 pub(crate) fn line_ahead(behind: &[u8]) -> bool
     ensures { result ≡ line_ahead behind.now }
 {
-    stands_at(behind, 0, b',') && stands_at(behind, 1, b'0')
+    behind.starts_with(b",0")
 }
 
 // The last coordinate lies within its limits, and ends no slanted line.
+#[tactic(auto, unfolding(crate::specs::Table::end_fits))]
 pub(crate) fn end_fits(line: bool, x: u64, y: u64, last_x: u64, last_y: u64) -> bool
     ensures { result ≡ end_fits line x y last_x last_y }
 {
@@ -108,26 +93,22 @@ pub(crate) fn end_fits(line: bool, x: u64, y: u64, last_x: u64, last_y: u64) -> 
 }
 
 // The last coordinate of a line or a rectangle.
+#[tactic(auto, unfolding(jobparts::specs::Items::part_at))]
 pub(crate) fn last_y_at<'a>(
-    body: &'a [u8],
-    at: usize,
-    x: &[u8],
-    y: &[u8],
-    last_x: &[u8],
-) -> Result<(Part<'a>, usize), Wrong>
-    ensures { taken result ≡ chosen_at Digit 4 not_slanted (x.now ∷ y.now ∷ last_x.now ∷ []) body.now at }
+    cursor: &mut Cursor<'a>,
+    x: Part<'_>,
+    y: Part<'_>,
+    last_x: Part<'_>,
+) -> Result<Part<'a>, Wrong>
+    ensures { Takes part_slots result cursor.old cursor.new (chosen_at Digit 4 not_slanted (x.entry.bytes.now ∷ y.entry.bytes.now ∷ last_x.entry.bytes.now ∷ [])) }
 {
-    let (digits, next) = part(body, at, Kind::Digit, 4)?;
-    let line = line_ahead(rest_at(body, next));
-    admit(
-        end_fits(
-            line,
-            number_of(x),
-            number_of(y),
-            number_of(last_x),
-            number_of(digits.bytes),
-        ),
-        at,
-    )?;
-    Ok((digits, next))
+    let digits = cursor.part(Kind::Digit, 4)?;
+    let line = line_ahead(rest_at(cursor.body, cursor.at));
+    digits.admitted(end_fits(
+        line,
+        x.number(),
+        y.number(),
+        last_x.number(),
+        digits.number(),
+    ))
 }

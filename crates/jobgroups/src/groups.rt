@@ -1,261 +1,259 @@
 // Takes groups of parts that stand together, each with what parts them.
-ghost use Rattle.std.specs.Prelude.{◌≡◌, List, [], ◌∷◌};
-ghost use Rattle.jobparts.specs.Grammar.{group_at};
-ghost use Rattle.jobparts.specs.Slots.{Slot, slot_of, taken, option_taken};
-ghost use Rattle.jobgroups.specs.Commands.{got, size_slots, point_slots, magnification_slots, lettering_slots, extras_slots, type_slots, widths_slots, height_slots, ends_slots, shape_slots, count_slots, setup_slots, form_slots};
+ghost use Rattle.std.specs.Prelude.{[], ◌∷◌};
+ghost use Rattle.jobparts.specs.Cursors.{Takes};
+ghost use Rattle.jobparts.specs.Grammar.{fixed, number, group_at};
+ghost use Rattle.jobparts.specs.Slots.{part_slots, option_slots};
+ghost use Rattle.jobgroups.specs.Commands.{size_slots, point_slots, magnification_slots, lettering_slots, extras_slots, type_slots, widths_slots, height_slots, ends_slots, shape_slots, count_slots, setup_slots, form_slots};
 ghost use Rattle.jobgroups.specs.Table.{sizes, text_field, bar_field, point, magnification, lettering, check_figure, extras, bar_type, bar_widths, bar_height, line_ends, line_shape, comma_letter, issue_count, issue_setup, form};
 
-use crate::checks::{bar_check, bar_kind, last_y_at, length_at, letter, rotation};
+use crate::checks::{bar_check, last_y_at, length_at, letter, one_of};
 use crate::command::{
     BarType, Count, Ends, Extras, Form, Height, Lettering, Magnification, Point, Setup, Shape,
     Size, Widths,
 };
-use jobparts::options::{lettered, signed, source_at};
+use jobparts::cursor::Cursor;
 use jobparts::part::{Kind, Part, Wrong};
-use jobparts::take::{byte, number, part};
 
 // pppp,wwww,llll
-pub fn sizes_at<'a>(body: &'a [u8], at: usize) -> Result<(Size<'a>, usize), Wrong>
-    ensures { got size_slots result ≡ group_at sizes [] body.now at }
+#[tactic(auto, unfolding(crate::specs::Table::sizes))]
+pub fn sizes_at<'a>(cursor: &mut Cursor<'a>) -> Result<Size<'a>, Wrong>
+    ensures { Takes size_slots result cursor.old cursor.new (group_at sizes []) }
 {
-    let (pitch, at) = number(body, at, 4, 0, 1500)?;
-    let at = byte(body, at, b',')?;
-    let (width, at) = number(body, at, 4, 100, 540)?;
-    let at = byte(body, at, b',')?;
-    let (length, at) = length_at(body, at, pitch.bytes)?;
-    Ok((
-        Size {
-            pitch,
-            width,
-            length,
-        },
-        at,
-    ))
+    let pitch = cursor.number(4, 0, 1500)?;
+    cursor.byte(b',')?;
+    let width = cursor.number(4, 100, 540)?;
+    cursor.byte(b',')?;
+    let length = length_at(cursor, pitch)?;
+    Ok(Size {
+        pitch,
+        width,
+        length,
+    })
+}
+
+// A number from 1 to a highest, and a semicolon.
+fn field<'a>(cursor: &mut Cursor<'a>, count: usize, high: u64) -> Result<Part<'a>, Wrong>
+    ensures { Takes part_slots result cursor.old cursor.new (group_at (number count 1 high ∷ fixed 59 ∷ []) []) }
+{
+    let field = cursor.number(count, 1, high)?;
+    cursor.byte(b';')?;
+    Ok(field)
 }
 
 // nnn;
-pub fn text_field<'a>(body: &'a [u8], at: usize) -> Result<(Part<'a>, usize), Wrong>
-    ensures { taken result ≡ group_at text_field [] body.now at }
+#[tactic(auto, unfolding(crate::specs::Table::text_field))]
+pub fn text_field<'a>(cursor: &mut Cursor<'a>) -> Result<Part<'a>, Wrong>
+    ensures { Takes part_slots result cursor.old cursor.new (group_at text_field []) }
 {
-    let (field, at) = number(body, at, 3, 1, 16)?;
-    let at = byte(body, at, b';')?;
-    Ok((field, at))
+    field(cursor, 3, 16)
 }
 
 // nn;
-pub fn bar_field<'a>(body: &'a [u8], at: usize) -> Result<(Part<'a>, usize), Wrong>
-    ensures { taken result ≡ group_at bar_field [] body.now at }
+#[tactic(auto, unfolding(crate::specs::Table::bar_field))]
+pub fn bar_field<'a>(cursor: &mut Cursor<'a>) -> Result<Part<'a>, Wrong>
+    ensures { Takes part_slots result cursor.old cursor.new (group_at bar_field []) }
 {
-    let (field, at) = number(body, at, 2, 1, 8)?;
-    let at = byte(body, at, b';')?;
-    Ok((field, at))
+    field(cursor, 2, 8)
 }
 
 // xxxx,yyyy
-pub fn point_at<'a>(body: &'a [u8], at: usize) -> Result<(Point<'a>, usize), Wrong>
-    ensures { got point_slots result ≡ group_at point [] body.now at }
+#[tactic(auto, unfolding(crate::specs::Table::point))]
+pub fn point_at<'a>(cursor: &mut Cursor<'a>) -> Result<Point<'a>, Wrong>
+    ensures { Takes point_slots result cursor.old cursor.new (group_at point []) }
 {
-    let (x, at) = number(body, at, 4, 0, 539)?;
-    let at = byte(body, at, b',')?;
-    let (y, at) = number(body, at, 4, 0, 499)?;
-    Ok((Point { x, y }, at))
+    let x = cursor.number(4, 0, 539)?;
+    cursor.byte(b',')?;
+    let y = cursor.number(4, 0, 499)?;
+    Ok(Point { x, y })
 }
 
 // ,w,h
-pub fn magnification_at<'a>(body: &'a [u8], at: usize) -> Result<(Magnification<'a>, usize), Wrong>
-    ensures { got magnification_slots result ≡ group_at magnification [] body.now at }
+#[tactic(auto, unfolding(crate::specs::Table::magnification))]
+pub fn magnification_at<'a>(cursor: &mut Cursor<'a>) -> Result<Magnification<'a>, Wrong>
+    ensures { Takes magnification_slots result cursor.old cursor.new (group_at magnification []) }
 {
-    let at = byte(body, at, b',')?;
-    let (across, at) = number(body, at, 1, 1, 9)?;
-    let at = byte(body, at, b',')?;
-    let (down, at) = number(body, at, 1, 1, 9)?;
-    Ok((Magnification { across, down }, at))
+    cursor.byte(b',')?;
+    let across = cursor.number(1, 1, 9)?;
+    cursor.byte(b',')?;
+    let down = cursor.number(1, 1, 9)?;
+    Ok(Magnification { across, down })
 }
 
 // ,f,rr,a
-pub fn lettering_at<'a>(body: &'a [u8], at: usize) -> Result<(Lettering<'a>, usize), Wrong>
-    ensures { got lettering_slots result ≡ group_at lettering [] body.now at }
+#[tactic(auto, unfolding(crate::specs::Table::lettering))]
+pub fn lettering_at<'a>(cursor: &mut Cursor<'a>) -> Result<Lettering<'a>, Wrong>
+    ensures { Takes lettering_slots result cursor.old cursor.new (group_at lettering []) }
 {
-    let at = byte(body, at, b',')?;
-    let (font, at) = part(body, at, Kind::Capital, 1)?;
-    let at = byte(body, at, b',')?;
-    let (rotation, at) = rotation(body, at)?;
-    let at = byte(body, at, b',')?;
-    let (attribute, at) = part(body, at, Kind::Capital, 1)?;
-    Ok((
-        Lettering {
-            font,
-            rotation,
-            attribute,
-        },
-        at,
-    ))
+    cursor.byte(b',')?;
+    let font = cursor.part(Kind::Capital, 1)?;
+    cursor.byte(b',')?;
+    let rotation = one_of(cursor, 2, &[0, 11, 22, 33])?;
+    cursor.byte(b',')?;
+    let attribute = cursor.part(Kind::Capital, 1)?;
+    Ok(Lettering {
+        font,
+        rotation,
+        attribute,
+    })
 }
 
 // ,M0 or ,M1, or nothing
-pub fn check_figure<'a>(body: &'a [u8], at: usize) -> Result<(Option<Part<'a>>, usize), Wrong>
-    ensures { option_taken result ≡ group_at check_figure [] body.now at }
+#[tactic(auto, unfolding(crate::specs::Table::check_figure))]
+pub fn check_figure<'a>(cursor: &mut Cursor<'a>) -> Result<Option<Part<'a>>, Wrong>
+    ensures { Takes option_slots result cursor.old cursor.new (group_at check_figure []) }
 {
-    lettered(body, at, b'M', 1, 1, false)
+    cursor.lettered(b'M', 1, 1, false)
 }
 
 // What text and bar formats end with: a step, zero suppression and a source, each of which may be left out.
-pub fn extras_at<'a>(body: &'a [u8], at: usize) -> Result<(Extras<'a>, usize), Wrong>
-    ensures { got extras_slots result ≡ group_at extras [] body.now at }
+#[tactic(auto, unfolding(crate::specs::Table::extras))]
+pub fn extras_at<'a>(cursor: &mut Cursor<'a>) -> Result<Extras<'a>, Wrong>
+    ensures { Takes extras_slots result cursor.old cursor.new (group_at extras []) }
 {
-    let (step, at) = signed(body, at, 10, false)?;
-    let (zeros, at) = lettered(body, at, b'Z', 2, 41, true)?;
-    let (source, at) = source_at(body, at)?;
-    Ok((
-        Extras {
-            step,
-            zeros,
-            source,
-        },
-        at,
-    ))
+    let step = cursor.signed(10, false)?;
+    let zeros = cursor.lettered(b'Z', 2, 41, true)?;
+    let source = cursor.source()?;
+    Ok(Extras {
+        step,
+        zeros,
+        source,
+    })
 }
 
 // ,t,c
-pub fn bar_type<'a>(body: &'a [u8], at: usize) -> Result<(BarType<'a>, usize), Wrong>
-    ensures { got type_slots result ≡ group_at bar_type [] body.now at }
+#[tactic(auto, unfolding(crate::specs::Table::bar_type))]
+pub fn bar_type<'a>(cursor: &mut Cursor<'a>) -> Result<BarType<'a>, Wrong>
+    ensures { Takes type_slots result cursor.old cursor.new (group_at bar_type []) }
 {
-    let at = byte(body, at, b',')?;
-    let (kind, at) = bar_kind(body, at)?;
-    let at = byte(body, at, b',')?;
-    let (check, at) = bar_check(body, at, kind.bytes)?;
-    Ok((BarType { kind, check }, at))
+    cursor.byte(b',')?;
+    let kind = one_of(cursor, 1, &[3, 9])?;
+    cursor.byte(b',')?;
+    let check = bar_check(cursor, kind)?;
+    Ok(BarType { kind, check })
 }
 
 // ,bb,bb,bb,bb,bb
-pub fn bar_widths<'a>(body: &'a [u8], at: usize) -> Result<(Widths<'a>, usize), Wrong>
-    ensures { got widths_slots result ≡ group_at bar_widths [] body.now at }
+#[tactic(auto, unfolding(crate::specs::Table::bar_widths))]
+pub fn bar_widths<'a>(cursor: &mut Cursor<'a>) -> Result<Widths<'a>, Wrong>
+    ensures { Takes widths_slots result cursor.old cursor.new (group_at bar_widths []) }
 {
-    let at = byte(body, at, b',')?;
-    let (narrow_bar, at) = part(body, at, Kind::Digit, 2)?;
-    let at = byte(body, at, b',')?;
-    let (narrow_space, at) = part(body, at, Kind::Digit, 2)?;
-    let at = byte(body, at, b',')?;
-    let (wide_bar, at) = part(body, at, Kind::Digit, 2)?;
-    let at = byte(body, at, b',')?;
-    let (wide_space, at) = part(body, at, Kind::Digit, 2)?;
-    let at = byte(body, at, b',')?;
-    let (gap, at) = part(body, at, Kind::Digit, 2)?;
-    Ok((
-        Widths {
-            narrow_bar,
-            narrow_space,
-            wide_bar,
-            wide_space,
-            gap,
-        },
-        at,
-    ))
+    cursor.byte(b',')?;
+    let narrow_bar = cursor.part(Kind::Digit, 2)?;
+    cursor.byte(b',')?;
+    let narrow_space = cursor.part(Kind::Digit, 2)?;
+    cursor.byte(b',')?;
+    let wide_bar = cursor.part(Kind::Digit, 2)?;
+    cursor.byte(b',')?;
+    let wide_space = cursor.part(Kind::Digit, 2)?;
+    cursor.byte(b',')?;
+    let gap = cursor.part(Kind::Digit, 2)?;
+    Ok(Widths {
+        narrow_bar,
+        narrow_space,
+        wide_bar,
+        wide_space,
+        gap,
+    })
 }
 
 // ,k,hhhh
-pub fn bar_height<'a>(body: &'a [u8], at: usize) -> Result<(Height<'a>, usize), Wrong>
-    ensures { got height_slots result ≡ group_at bar_height [] body.now at }
+#[tactic(auto, unfolding(crate::specs::Table::bar_height))]
+pub fn bar_height<'a>(cursor: &mut Cursor<'a>) -> Result<Height<'a>, Wrong>
+    ensures { Takes height_slots result cursor.old cursor.new (group_at bar_height []) }
 {
-    let at = byte(body, at, b',')?;
-    let (rotation, at) = number(body, at, 1, 0, 3)?;
-    let at = byte(body, at, b',')?;
-    let (height, at) = part(body, at, Kind::Digit, 4)?;
-    Ok((Height { rotation, height }, at))
+    cursor.byte(b',')?;
+    let rotation = cursor.number(1, 0, 3)?;
+    cursor.byte(b',')?;
+    let height = cursor.part(Kind::Digit, 4)?;
+    Ok(Height { rotation, height })
 }
 
 // ;aaaa,bbbb,cccc,dddd of a line or a rectangle
-pub fn line_ends<'a>(body: &'a [u8], at: usize) -> Result<(Ends<'a>, usize), Wrong>
-    ensures { got ends_slots result ≡ group_at line_ends [] body.now at }
+#[tactic(auto, unfolding(crate::specs::Table::line_ends))]
+pub fn line_ends<'a>(cursor: &mut Cursor<'a>) -> Result<Ends<'a>, Wrong>
+    ensures { Takes ends_slots result cursor.old cursor.new (group_at line_ends []) }
 {
-    let at = byte(body, at, b';')?;
-    let (x, at) = number(body, at, 4, 0, 539)?;
-    let at = byte(body, at, b',')?;
-    let (y, at) = number(body, at, 4, 0, 499)?;
-    let at = byte(body, at, b',')?;
-    let (last_x, at) = number(body, at, 4, 0, 539)?;
-    let at = byte(body, at, b',')?;
-    let (last_y, at) = last_y_at(body, at, x.bytes, y.bytes, last_x.bytes)?;
-    Ok((
-        Ends {
-            from: Point { x, y },
-            to: Point {
-                x: last_x,
-                y: last_y,
-            },
+    cursor.byte(b';')?;
+    let x = cursor.number(4, 0, 539)?;
+    cursor.byte(b',')?;
+    let y = cursor.number(4, 0, 499)?;
+    cursor.byte(b',')?;
+    let last_x = cursor.number(4, 0, 539)?;
+    cursor.byte(b',')?;
+    let last_y = last_y_at(cursor, x, y, last_x)?;
+    Ok(Ends {
+        from: Point { x, y },
+        to: Point {
+            x: last_x,
+            y: last_y,
         },
-        at,
-    ))
+    })
 }
 
 // ,e,f
-pub fn line_shape<'a>(body: &'a [u8], at: usize) -> Result<(Shape<'a>, usize), Wrong>
-    ensures { got shape_slots result ≡ group_at line_shape [] body.now at }
+#[tactic(auto, unfolding(crate::specs::Table::line_shape))]
+pub fn line_shape<'a>(cursor: &mut Cursor<'a>) -> Result<Shape<'a>, Wrong>
+    ensures { Takes shape_slots result cursor.old cursor.new (group_at line_shape []) }
 {
-    let at = byte(body, at, b',')?;
-    let (kind, at) = number(body, at, 1, 0, 1)?;
-    let at = byte(body, at, b',')?;
-    let (dots, at) = number(body, at, 1, 1, 9)?;
-    Ok((Shape { kind, dots }, at))
+    cursor.byte(b',')?;
+    let kind = cursor.number(1, 0, 1)?;
+    cursor.byte(b',')?;
+    let dots = cursor.number(1, 1, 9)?;
+    Ok(Shape { kind, dots })
 }
 
 // A comma and one of two letters
-pub fn comma_letter<'a>(
-    body: &'a [u8],
-    at: usize,
-    one: u8,
-    other: u8,
-) -> Result<(Part<'a>, usize), Wrong>
-    ensures { taken result ≡ group_at (comma_letter one other) [] body.now at }
+#[tactic(auto, unfolding(crate::specs::Table::comma_letter))]
+pub fn comma_letter<'a>(cursor: &mut Cursor<'a>, one: u8, other: u8) -> Result<Part<'a>, Wrong>
+    ensures { Takes part_slots result cursor.old cursor.new (group_at (comma_letter one other) []) }
 {
-    let at = byte(body, at, b',')?;
-    let (letter, at) = letter(body, at, one, other)?;
-    Ok((letter, at))
+    cursor.byte(b',')?;
+    letter(cursor, one, other)
 }
 
 // ;I,nnnn,ccc
-pub fn issue_count<'a>(body: &'a [u8], at: usize) -> Result<(Count<'a>, usize), Wrong>
-    ensures { got count_slots result ≡ group_at issue_count [] body.now at }
+#[tactic(auto, unfolding(crate::specs::Table::issue_count))]
+pub fn issue_count<'a>(cursor: &mut Cursor<'a>) -> Result<Count<'a>, Wrong>
+    ensures { Takes count_slots result cursor.old cursor.new (group_at issue_count []) }
 {
-    let at = byte(body, at, b';')?;
-    let at = byte(body, at, b'I')?;
-    let at = byte(body, at, b',')?;
-    let (labels, at) = number(body, at, 4, 1, 9999)?;
-    let at = byte(body, at, b',')?;
-    let (cut, at) = number(body, at, 3, 0, 100)?;
-    Ok((Count { labels, cut }, at))
+    cursor.byte(b';')?;
+    cursor.byte(b'I')?;
+    cursor.byte(b',')?;
+    let labels = cursor.number(4, 1, 9999)?;
+    cursor.byte(b',')?;
+    let cut = cursor.number(3, 0, 100)?;
+    Ok(Count { labels, cut })
 }
 
 // smvrgh
-pub fn issue_setup<'a>(body: &'a [u8], at: usize) -> Result<(Setup<'a>, usize), Wrong>
-    ensures { got setup_slots result ≡ group_at issue_setup [] body.now at }
+#[tactic(auto, unfolding(crate::specs::Table::issue_setup))]
+pub fn issue_setup<'a>(cursor: &mut Cursor<'a>) -> Result<Setup<'a>, Wrong>
+    ensures { Takes setup_slots result cursor.old cursor.new (group_at issue_setup []) }
 {
-    let (sensor, at) = part(body, at, Kind::Digit, 1)?;
-    let (mode, at) = part(body, at, Kind::Capital, 1)?;
-    let (speed, at) = part(body, at, Kind::CapitalOrDigit, 1)?;
-    let (ribbon, at) = part(body, at, Kind::Digit, 1)?;
-    let (rotation, at) = part(body, at, Kind::Digit, 1)?;
-    let (response, at) = part(body, at, Kind::Digit, 1)?;
-    Ok((
-        Setup {
-            sensor,
-            mode,
-            speed,
-            ribbon,
-            rotation,
-            response,
-        },
-        at,
-    ))
+    let sensor = cursor.part(Kind::Digit, 1)?;
+    let mode = cursor.part(Kind::Capital, 1)?;
+    let speed = cursor.part(Kind::CapitalOrDigit, 1)?;
+    let ribbon = cursor.part(Kind::Digit, 1)?;
+    let rotation = cursor.part(Kind::Digit, 1)?;
+    let response = cursor.part(Kind::Digit, 1)?;
+    Ok(Setup {
+        sensor,
+        mode,
+        speed,
+        ribbon,
+        rotation,
+        response,
+    })
 }
 
 // ;nn,b
-pub fn form_at<'a>(body: &'a [u8], at: usize) -> Result<(Form<'a>, usize), Wrong>
-    ensures { got form_slots result ≡ group_at form [] body.now at }
+#[tactic(auto, unfolding(crate::specs::Table::form))]
+pub fn form_at<'a>(cursor: &mut Cursor<'a>) -> Result<Form<'a>, Wrong>
+    ensures { Takes form_slots result cursor.old cursor.new (group_at form []) }
 {
-    let at = byte(body, at, b';')?;
-    let (form, at) = number(body, at, 2, 1, 20)?;
-    let at = byte(body, at, b',')?;
-    let (response, at) = number(body, at, 1, 0, 1)?;
-    Ok((Form { form, response }, at))
+    cursor.byte(b';')?;
+    let form = cursor.number(2, 1, 20)?;
+    cursor.byte(b',')?;
+    let response = cursor.number(1, 0, 1)?;
+    Ok(Form { form, response })
 }

@@ -1,12 +1,14 @@
 // Prints a command and its parts, one line each.
 use jobgroups::command::*;
+use jobgroups::letters::Letters;
 use jobparts::part::{Part, Source};
 use std::io;
 
 // The bytes of an accepted part can all be printed.
+// Kept so: a Display of a part would have the same loop, and a type more.
 fn text(rt: &HostRuntime, bytes: &[u8]) -> io::Result<()> {
     for b in bytes {
-        let c = *b as char;
+        let c = char::from(*b);
         print!(rt; "{c}")?;
     }
     println!(rt; "")
@@ -82,7 +84,7 @@ fn show_issue(rt: &HostRuntime, i: Issue<'_>) -> io::Result<()> {
     show(rt, "response", i.setup.response)
 }
 
-fn head(rt: &HostRuntime, at: usize, letters: &str, what: &str) -> io::Result<()> {
+fn head(rt: &HostRuntime, at: usize, letters: Letters, what: &str) -> io::Result<()> {
     println!(rt; "{at:06} {letters} {what}")
 }
 
@@ -91,80 +93,66 @@ fn show_drawing(rt: &HostRuntime, ends: Ends<'_>) -> io::Result<()> {
     show_point(rt, ends.to)
 }
 
-// The commands that act on the label.
-fn show_label_command(rt: &HostRuntime, at: usize, command: Command<'_>) -> io::Result<()> {
+pub fn show_command(rt: &HostRuntime, at: usize, command: Command<'_>) -> io::Result<()> {
     match command {
         Command::SetSize(s) => {
-            head(rt, at, "D", "sizes")?;
+            head(rt, at, Letters::D, "sizes")?;
             show(rt, "pitch", s.pitch)?;
             show(rt, "width", s.width)?;
             show(rt, "length", s.length)
         }
-        Command::Clear => head(rt, at, "C", "clear"),
+        Command::Clear => head(rt, at, Letters::C, "clear"),
         Command::FormatText(f) => {
-            head(rt, at, "PC", "text format")?;
+            head(rt, at, Letters::Pc, "text format")?;
             show_text_format(rt, f)
         }
         Command::FormatBar(f) => {
-            head(rt, at, "XB", "bar format")?;
+            head(rt, at, Letters::Xb, "bar format")?;
             show_bar_format(rt, f)
         }
         Command::DrawLine(l) => {
-            head(rt, at, "LC", "line or rectangle")?;
+            head(rt, at, Letters::Lc, "line or rectangle")?;
             show_drawing(rt, l.ends)?;
             show(rt, "shape", l.shape.kind)?;
             show(rt, "dots", l.shape.dots)
         }
         Command::MarkArea(a) => {
-            head(rt, at, "XR", "clear or invert an area")?;
+            head(rt, at, Letters::Xr, "clear or invert an area")?;
             show_drawing(rt, a.ends)?;
             show(rt, "action", a.action)
         }
-        _ => Ok(()),
-    }
-}
-
-// The commands that give texts, and those for the station.
-fn show_other_command(rt: &HostRuntime, at: usize, command: Command<'_>) -> io::Result<()> {
-    match command {
         Command::SetLinks(p) => {
-            head(rt, at, "RC;", "link strings")?;
+            head(rt, at, Letters::RcLinks, "link strings")?;
             show(rt, "strings", p)
         }
         Command::SetText(t) => {
-            head(rt, at, "RC", "text")?;
+            head(rt, at, Letters::Rc, "text")?;
             show(rt, "field", t.field)?;
             show(rt, "text", t.text)
         }
         Command::SetBar(t) => {
-            head(rt, at, "RB", "bar text")?;
+            head(rt, at, Letters::Rb, "bar text")?;
             show(rt, "field", t.field)?;
             show(rt, "text", t.text)
         }
         Command::PrintIssue(i) => {
-            head(rt, at, "XS", "issue")?;
+            head(rt, at, Letters::Xs, "issue")?;
             show_issue(rt, i)
         }
         Command::BeginSaving(f) => {
-            head(rt, at, "XO", "begin saving")?;
+            head(rt, at, Letters::Xo, "begin saving")?;
             show(rt, "form", f.form)?;
             show(rt, "response", f.response)
         }
-        Command::EndSaving => head(rt, at, "XP", "end saving"),
+        Command::EndSaving => head(rt, at, Letters::Xp, "end saving"),
         Command::RecallForm(r) => {
-            head(rt, at, "XQ", "recall")?;
+            head(rt, at, Letters::Xq, "recall")?;
             show(rt, "form", r.form.form)?;
             show(rt, "response", r.form.response)?;
             show(rt, "target", r.target)
         }
-        Command::EmptyStore => head(rt, at, "J1", "empty the store"),
-        Command::WriteStatus => head(rt, at, "WS", "status"),
-        Command::Reset => head(rt, at, "WR", "reset"),
-        _ => Ok(()),
+        Command::EmptyStore => head(rt, at, Letters::J1, "empty the store"),
+        Command::WriteStatus => head(rt, at, Letters::Ws, "status"),
+        Command::Reset => head(rt, at, Letters::Wr, "reset"),
     }
-}
-
-pub fn show_command(rt: &HostRuntime, at: usize, command: Command<'_>) -> io::Result<()> {
-    show_label_command(rt, at, command)?;
-    show_other_command(rt, at, command)
 }

@@ -1,7 +1,8 @@
 -- Facts on runs of bytes of one kind.
-use Rattle.std.proofs.Common.{◌≡◌, ℕ, ◌+◌, ◌<◌, ◌≤◌, true, false, cond, List, [], ◌∷◌, length, get_or, drop, sym, ◌∙◌, arith}
-use Rattle.std.proofs.lemmas.List.{at_drop_more}
-use Rattle.std.proofs.lemmas.Bool.{cond_both, cond-true, cond-false}
+use Rattle.std.proofs.Common.{◌≡◌, ℕ, zero, suc, ◌+◌, ◌≤◌, min, Bool, true, false, cond, List, [], ◌∷◌, length, take, ap, ◌∙◌, arith}
+use Rattle.std.specs.List.{prefix_len}
+use Rattle.std.proofs.lemmas.Bool.{cond_both}
+use Rattle.std.proofs.lemmas.List.Folds.{length-prefix_len}
 use Rattle.jobparts.specs.Kinds.{run, of_kind}
 use Rattle.jobparts.specs.declared.part.Kind.{Kind}
 
@@ -11,11 +12,15 @@ run_le k (b ∷ bs) =
     let le = run_le k bs in
     cond_both (of_kind k b) (1 + run k bs) 0 (λ n. n ≤ length (b ∷ bs)) (λ _. omega arith) (λ _. omega arith)
 
-pub run_more : (k : Kind) (bs : List ℕ) (i : ℕ) → i < length bs → run k (drop i bs) ≡ cond (of_kind k (get_or bs i 0)) (1 + run k (drop (i + 1) bs)) 0
-run_more k bs i lt = at_drop_more (run k) bs i 0 lt
+one_on : (t : Bool) (m n : ℕ) → cond t (1 + min m n) 0 ≡ min (suc m) (cond t (1 + n) 0)
+one_on true m n = omega arith
+one_on false m n = omega arith
 
-pub run_fits : (k : Kind) (bs : List ℕ) (i : ℕ) → i < length bs → true ≡ of_kind k (get_or bs i 0) → run k (drop i bs) ≡ 1 + run k (drop (i + 1) bs)
-run_fits k bs i lt fits = run_more k bs i lt ∙ cond-true _ _ _ (sym fits)
+prefix_is : (k : Kind) (most : ℕ) (bs : List ℕ) → prefix_len (of_kind k) (take most bs) ≡ min most (run k bs)
+prefix_is k zero bs = omega arith
+prefix_is k (suc most) [] = omega arith
+prefix_is k (suc most) (b ∷ bs) = ap (λ n. cond (of_kind k b) (1 + n) 0) (prefix_is k most bs) ∙ one_on (of_kind k b) most (run k bs)
 
-pub run_unfit : (k : Kind) (bs : List ℕ) (i : ℕ) → i < length bs → false ≡ of_kind k (get_or bs i 0) → run k (drop i bs) ≡ 0
-run_unfit k bs i lt unfit = run_more k bs i lt ∙ cond-false _ _ _ (sym unfit)
+-- how many of the first bytes are taken while they are of a kind
+pub run_is : (k : Kind) (most : ℕ) (bs : List ℕ) → length (take (prefix_len (of_kind k) (take most bs)) (take most bs)) ≡ min most (run k bs)
+run_is k most bs = length-prefix_len (of_kind k) (take most bs) ∙ prefix_is k most bs

@@ -2,6 +2,7 @@
 --   Item         a fixed byte, or something that yields a part, see below
 --   item_at      what an item yields at a place of a body, or the first thing wrong in it
 --   group_at     what the items of a group yield, one behind the other, or the leftmost wrong one
+--   groups_at    what groups yield, one behind the other
 --   row_at       what the groups of a command yield; nothing may be left over behind them
 --   one_of, one_letter   the rules that admit some numbers, and some letters
 use Rattle.std.specs.Prelude.{ℕ, ◌-◌, Bool, true, false, cond, List, [], ◌∷◌, ◌++◌, map, Ok, Result, ◌==◌, slice_index}
@@ -47,6 +48,10 @@ abbrev pub group_at : List Item → List Slot → List ℕ → ℕ → Result Go
 group_at [] seen body at = Ok (seen, at)
 group_at (item ∷ items) seen body at =
     then (item_at item (map bytes_of seen) body at) (λ o. group_at items (seen ++ o.0) body o.1)
+
+abbrev pub groups_at : List (List Item) → List Slot → List ℕ → ℕ → Result Got Wrong
+groups_at [] seen body at = Ok (seen, at)
+groups_at (group ∷ groups) seen body at = then (group_at group [] body at) (λ o. groups_at groups (seen ++ o.0) body o.1)
 
 abbrev pub row_at : List (List Item) → List Slot → List ℕ → ℕ → Result (List Slot) Wrong
 row_at [] seen body at = then (end_at body at) (λ _. Ok seen)

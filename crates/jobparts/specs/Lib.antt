@@ -1,3 +1,4 @@
+pub mod Cursors
 pub mod Grammar
 pub mod Items
 pub mod Kinds

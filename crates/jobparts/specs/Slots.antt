@@ -4,7 +4,8 @@
 --   wrong_byte p  a byte that does not fit stands at p, or is missing there
 --   not_admitted p the part that begins at p is not admitted
 --   then r f      f of what r yields; a wrong part stays the answer
---   slot_of, taken, reached   a part of the code, and the answer that has one, as slots
+--   slot_of, option_slot, source_slot   a part of the code as a slot
+--   part_slots, option_slots, source_slots   the same, as the one slot of an item
 use Rattle.std.specs.Prelude.{ℕ, List, [], ◌∷◌, Some, None, Ok, Err, Option, Result}
 use Rattle.jobparts.specs.declared.part.Part.{Part}
 use Rattle.jobparts.specs.declared.part.Source.{Source}
@@ -47,14 +48,11 @@ source_slot Nothing = missing
 source_slot (Text p) = slot_of p
 source_slot (Links p) = linked p.place p.bytes.now
 
-abbrev pub taken : Result (Part × ℕ) Wrong → Result Got Wrong
-taken (Ok x) = Ok (slot_of x.0 ∷ [], x.1)
-taken (Err e) = Err e
+abbrev pub part_slots : Part → List Slot
+part_slots p = slot_of p ∷ []
 
-abbrev pub option_taken : Result (Option Part × ℕ) Wrong → Result Got Wrong
-option_taken (Ok x) = Ok (option_slot x.0 ∷ [], x.1)
-option_taken (Err e) = Err e
+abbrev pub option_slots : Option Part → List Slot
+option_slots p = option_slot p ∷ []
 
-abbrev pub source_taken : Result (Source × ℕ) Wrong → Result Got Wrong
-source_taken (Ok x) = Ok (source_slot x.0 ∷ [], x.1)
-source_taken (Err e) = Err e
+abbrev pub source_slots : Source → List Slot
+source_slots s = source_slot s ∷ []

@@ -1,9 +1,8 @@
 // Looks at the bytes of a body from a place on, without taking them.
 ghost use Rattle.std.specs.Prelude.{◌≡◌, ◌-◌, ◌≤◌, min, length, take, drop, nat_eq};
-ghost use Rattle.jobparts.specs.Kinds.{of_kind, run, stands};
-ghost use Rattle.jobparts.specs.Slots.{slot_of, given};
+ghost use Rattle.jobparts.specs.Kinds.{of_kind, run, stands, is_sign};
 
-use crate::part::{Kind, Part};
+use crate::part::Kind;
 use limits::bytes::{is_capital, is_digit, is_in_text};
 
 pub(crate) fn is_of_kind(b: u8, kind: Kind) -> bool
@@ -17,11 +16,20 @@ pub(crate) fn is_of_kind(b: u8, kind: Kind) -> bool
     }
 }
 
+// Kept so: these look at any bytes, also where there is no cursor.
+
 // Whether a byte stands at the place.
 pub fn stands_at(body: &[u8], at: usize, b: u8) -> bool
     ensures { result ≡ stands (nat_eq b) body.now at }
 {
-    at < body.len() && body[at] == b
+    body.get(at) == Some(&b)
+}
+
+// Whether a plus or a minus stands at the place.
+pub(crate) fn sign_at(body: &[u8], at: usize) -> bool
+    ensures { result ≡ stands is_sign body.now at }
+{
+    matches!(body.get(at), Some(b'+' | b'-'))
 }
 
 // What is left of a body from a place on; nothing past its end.
@@ -29,28 +37,14 @@ pub fn rest_at<'a>(body: &'a [u8], at: usize) -> &'a [u8]
     ensures bytes { result.now ≡ drop at body.now }
     ensures len { length result.now ≡ length body.now - at }
 {
-    if at < body.len() { &body[at..] } else { &[] }
+    body.get(at..).unwrap_or(&[])
 }
 
 // The first bytes, at most so many.
 pub fn first<'a>(bytes: &'a [u8], most: usize) -> &'a [u8]
     ensures { result.now ≡ take most bytes.now }
 {
-    if most < bytes.len() {
-        &bytes[0..most]
-    } else {
-        bytes
-    }
-}
-
-// The part from one place to another.
-pub(crate) fn part_of<'a>(body: &'a [u8], from: usize, to: usize) -> Part<'a>
-    ensures { slot_of result ≡ given from (take (to - from) (drop from body.now)) }
-{
-    Part {
-        place: from,
-        bytes: first(rest_at(body, from), to.saturating_sub(from)),
-    }
+    bytes.get(..most).unwrap_or(bytes)
 }
 
 // How many bytes at the front are of a kind, counted to `most`.
@@ -58,9 +52,6 @@ pub(crate) fn run_of(rest: &[u8], kind: Kind, most: usize) -> usize
     ensures count { result ≡ min most (run kind rest.now) }
     ensures within { result ≤ length rest.now }
 {
-    let mut n = 0;
-    while n < most && n < rest.len() && is_of_kind(rest[n], kind) {
-        n += 1;
-    }
-    n
+    let counted = first(rest, most);
+    counted.iter().take_while(|b| is_of_kind(**b, kind)).count()
 }

@@ -5,13 +5,15 @@ ghost use Rattle.jobparts.specs.Values.{number_of};
 use crate::bytes::first;
 
 // The number that digits write; a numeric part has ten at most.
+// Kept so: a fold's closure would have to require that each sum fits, which the loop shows.
+#[tactic(auto, unfolding(crate::specs::Values::number_of))]
 pub fn number_of(bytes: &[u8]) -> u64
     ensures { result ≡ number_of bytes.now }
 {
     let digits = first(bytes, 10);
     let mut n = 0;
     for b in digits {
-        n = n * 10 + (*b).saturating_sub(b'0') as u64;
+        n = n * 10 + u64::from(b.saturating_sub(b'0'));
     }
     n
 }

@@ -1,6 +1,7 @@
 // Whoever wants to hear what a job does while it is done.
 use crate::turn::Turn;
 
+// Kept so: a closure in its place would be a requires of a public call.
 pub trait Listener {
     // Why a listener gives up, which ends the job.
     type Failed;

@@ -4,7 +4,7 @@ ghost use Rattle.station.specs.Seen.{seen};
 ghost use Rattle.jobrun.specs.Turns.{Turned, Sending, Again, ends, is_out};
 
 use crate::turn::Turn;
-use faults::Fault;
+use faults::{Fault, Refusal};
 use printers::printer::Printer;
 use station::state::Station;
 use stores::store::FormStore;
@@ -14,15 +14,20 @@ use texts::rule::CountingRule;
 fn is_last(fault: &Fault) -> bool
     ensures { result ≡ ends fault.now }
 {
-    fault.refusal.number() <= 3
+    matches!(
+        fault.refusal,
+        Refusal::JobBounds | Refusal::ShortBuffer | Refusal::JobEnd
+    )
 }
 
 // Whether a print was refused for want of stock.
 fn is_out(fault: &Fault) -> bool
     ensures { result ≡ is_out fault.now }
 {
-    fault.refusal.number() == 23
+    fault.refusal == Refusal::OutOfStock
 }
+
+// Kept so: the buffers are the caller's, as the call from C lends them, and one that is too short is refused.
 
 // The command at a place.
 fn send<S: FormStore, P: Printer, R1: CountingRule, R2: CountingRule>(
@@ -36,13 +41,8 @@ fn send<S: FormStore, P: Printer, R1: CountingRule, R2: CountingRule>(
 {
     match station.command(job, at, answer, work) {
         Ok(next) => Turn::Done(next),
-        Err(fault) => {
-            if is_last(&fault) {
-                Turn::Ended(fault)
-            } else {
-                Turn::Refused(fault)
-            }
-        }
+        Err(fault) if is_last(&fault) => Turn::Ended(fault),
+        Err(fault) => Turn::Refused(fault),
     }
 }
 
@@ -72,12 +72,7 @@ pub fn step<S: FormStore, P: Printer, R1: CountingRule, R2: CountingRule>(
 {
     match station.print(work) {
         Ok(n) => Turn::Tag(n),
-        Err(fault) => {
-            if is_out(&fault) {
-                print_again(station, work)
-            } else {
-                send(station, job, at, answer, work)
-            }
-        }
+        Err(fault) if is_out(&fault) => print_again(station, work),
+        Err(_) => send(station, job, at, answer, work),
     }
 }

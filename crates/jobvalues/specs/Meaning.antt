@@ -6,14 +6,14 @@
 --   string_of k bs   the k-th of link strings, counted from 0; empty where there are fewer
 --   is_label c       the command acts on the label alone
 --   text_check_of, bar_check_of   the check character of a field
-use Rattle.std.specs.Prelude.{ℕ, zero, suc, ◌+◌, ◌*◌, ◌%◌, Bool, true, false, cond, List, length, take, drop, ℤ, pos, neg_ℤ, Some, None, Option, ◌==◌, nat_lt, slice_index}
+use Rattle.std.specs.Prelude.{ℕ, ◌*◌, ◌%◌, Bool, true, false, cond, List, [], length, take, drop, ℤ, pos, neg_ℤ, Some, None, Option, ◌==◌, nat_lt, slice_index, slice_index_or}
+use Rattle.std.specs.List.{slice_split}
 use Rattle.jobparts.specs.Slots.{Slot, missing, given, linked}
 use Rattle.jobparts.specs.Values.{number_of}
 use Rattle.jobgroups.specs.declared.letters.Letters.{Letters}
 use Rattle.jobgroups.specs.declared.letters.Letters.TheVariants.{D, C, Pc, Xb, RcLinks, Rc, Rb, Lc, Xr, Xs, Xo, Xp, Xq, J1, Ws, Wr}
-use Rattle.job.specs.Reading.{before}
-use Rattle.jobvalues.specs.declared.commands.Check.{Check}
-use Rattle.jobvalues.specs.declared.commands.Check.TheVariants.{Nothing, Modulus10, Modulus43}
+use Rattle.texts.specs.declared.checks.Check.{Check}
+use Rattle.texts.specs.declared.checks.Check.TheVariants.{NoCheck, Modulus10, Modulus43}
 
 abbrev pub step_size : List ℕ → ℕ
 step_size bs = number_of (drop 1 bs) % 10000000000
@@ -35,8 +35,7 @@ abbrev pub link_of : ℕ → List ℕ → Option ℕ
 link_of k bs = cond (nat_lt k 4) (cond (nat_lt (3 * k) (length bs)) (Some (number_of (take 2 (drop (3 * k) bs)))) None) None
 
 abbrev pub string_of : ℕ → List ℕ → List ℕ
-string_of zero bs = take (before 44 bs) bs
-string_of (suc k) bs = string_of k (drop (before 44 bs + 1) bs)
+string_of k bs = slice_index_or (slice_split (λ b. b == 44) bs) k []
 
 abbrev pub is_label : Letters → Bool
 is_label D = true
@@ -57,11 +56,11 @@ is_label Ws = false
 is_label Wr = false
 
 abbrev pub text_check_of : Slot → Check
-text_check_of missing = Nothing
+text_check_of missing = NoCheck
 text_check_of (given p bs) = cond (number_of bs == 0) Modulus10 Modulus43
-text_check_of (linked p bs) = Nothing
+text_check_of (linked p bs) = NoCheck
 
 abbrev pub bar_check_of : Slot → Check
-bar_check_of missing = Nothing
-bar_check_of (given p bs) = cond (number_of bs == 3) Modulus43 Nothing
-bar_check_of (linked p bs) = Nothing
+bar_check_of missing = NoCheck
+bar_check_of (given p bs) = cond (number_of bs == 3) Modulus43 NoCheck
+bar_check_of (linked p bs) = NoCheck

@@ -8,14 +8,7 @@ use jobgroups::command::Command;
 use jobgroups::letters::Letters;
 use jobparts::part::Part;
 use jobparts::values::number_of;
-
-// The check character of a text.
-#[derive(Clone, Copy, PartialEq, Eq, Debug)]
-pub enum Check {
-    Nothing,
-    Modulus10,
-    Modulus43,
-}
+use texts::checks::Check;
 
 // The letters of a command.
 pub fn letters<'a>(command: Command<'a>) -> Letters
@@ -45,27 +38,28 @@ pub fn letters<'a>(command: Command<'a>) -> Letters
 pub fn is_label_command(letters: Letters) -> bool
     ensures { result ≡ is_label letters }
 {
-    match letters {
-        Letters::D | Letters::C | Letters::Pc | Letters::Xb => true,
-        Letters::RcLinks | Letters::Rc | Letters::Rb | Letters::Lc | Letters::Xr => true,
-        Letters::Xs | Letters::Xo | Letters::Xp | Letters::Xq => false,
-        Letters::J1 | Letters::Ws | Letters::Wr => false,
-    }
+    matches!(
+        letters,
+        Letters::D
+            | Letters::C
+            | Letters::Pc
+            | Letters::Xb
+            | Letters::RcLinks
+            | Letters::Rc
+            | Letters::Rb
+            | Letters::Lc
+            | Letters::Xr
+    )
 }
 
 // The check of a text field, by the figure behind M.
 pub fn text_check<'a>(figure: Option<Part<'a>>) -> Check
     ensures { result ≡ text_check_of (option_slot figure.entry) }
 {
-    match figure {
-        None => Check::Nothing,
-        Some(p) => {
-            if number_of(p.bytes) == 0 {
-                Check::Modulus10
-            } else {
-                Check::Modulus43
-            }
-        }
+    match figure.map(|part| number_of(part.bytes)) {
+        None => Check::NoCheck,
+        Some(0) => Check::Modulus10,
+        Some(_) => Check::Modulus43,
     }
 }
 
@@ -73,9 +67,8 @@ pub fn text_check<'a>(figure: Option<Part<'a>>) -> Check
 pub fn bar_check<'a>(check: Part<'a>) -> Check
     ensures { result ≡ bar_check_of (slot_of check.entry) }
 {
-    if number_of(check.bytes) == 3 {
-        Check::Modulus43
-    } else {
-        Check::Nothing
+    match number_of(check.bytes) {
+        3 => Check::Modulus43,
+        _ => Check::NoCheck,
     }
 }

@@ -20,6 +20,7 @@ pub fn number<'a>(part: Part<'a>) -> u64
 }
 
 // The ten digits behind a sign.
+// Kept so: the label's step stops at ten nines. The two differ on bytes that are no digits, and each has its own promise.
 fn step_size(bytes: &[u8]) -> u64
     ensures { result ≡ step_size bytes.now }
 {
@@ -42,18 +43,13 @@ pub fn step_of(bytes: &[u8]) -> i64
 pub fn step<'a>(part: Option<Part<'a>>) -> i64
     ensures { result ≡ step_option (option_slot part.entry) }
 {
-    match part {
-        None => 0,
-        Some(p) => step_of(p.bytes),
-    }
+    part.map_or(0, |step| step_of(step.bytes))
 }
 
 // How many places zero suppression leaves; nothing where it is left out.
+// Kept so: the label keeps the two digits as a u8, while here any number of a part is told.
 pub fn zeros<'a>(part: Option<Part<'a>>) -> Option<u64>
     ensures { result ≡ zeros_option (option_slot part.entry) }
 {
-    match part {
-        None => None,
-        Some(p) => Some(number_of(p.bytes)),
-    }
+    part.map(|places| number_of(places.bytes))
 }

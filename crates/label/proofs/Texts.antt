@@ -1,5 +1,6 @@
 -- Bytes are a text when there are not too many, and each of them is one that a text may hold.
-use Rattle.std.proofs.Common.{◌≡◌, ℕ, zero, suc, ◌<◌, ◌≤◌, true, false, leb, List, [], ◌∷◌, length, get_or, Err, refl, arith}
+use Rattle.std.proofs.Common.{◌≡◌, ℕ, suc, ◌≤◌, true, false, leb, List, [], ◌∷◌, length, Err, refl, arith}
+use Rattle.std.proofs.lemmas.List.Folds.{list_all_at}
 use Rattle.std.proofs.lemmas.Bool.Decides.{nat_tests}
 use Rattle.limits.specs.Bytes.{in_text}
 use Rattle.limits.specs.Limits.{longest_text}
@@ -9,17 +10,12 @@ use Rattle.texts.specs.declared.text.TextFault.{TextFault}
 use Rattle.texts.specs.declared.text.TextFault.TheVariants.{BadByte, TooLong}
 use Rattle.label.specs.Values.{all_in_text, text_of}
 
-pub all_in : (s : List ℕ) → InTextBelow s (length s) → all_in_text s ≡ true
+all_in : (s : List ℕ) → InTextBelow s (length s) → all_in_text s ≡ true
 all_in [] h = refl
 all_in (b ∷ bs) h =
     let first : in_text b ≡ true = h 0 (omega arith) in
     let rest = all_in bs (λ k lt. h (suc k) (omega arith)) in
     simp (first, rest)
-
-pub not_all_in : (s : List ℕ) (k : ℕ) → k < length s → in_text (get_or s k 0) ≡ false → all_in_text s ≡ false
-not_all_in [] k lt h = grind (arith, nat_tests)
-not_all_in (b ∷ bs) zero lt h = let no : in_text b ≡ false = h in simp no
-not_all_in (b ∷ bs) (suc k) lt h = let rest = not_all_in bs k (omega arith) h in grind (arith, nat_tests)
 
 pub a_text : (s : List ℕ) → length s ≤ longest_text → InTextBelow s (length s) → text_of s ≡ s
 unfolding text_of
@@ -30,7 +26,7 @@ a_text s short plain =
 
 pub no_text : (s : List ℕ) (e : TextFault) → Made s (Err e) → text_of s ≡ []
 unfolding text_of
-no_text s (BadByte k) h = let no = not_all_in s k h.there h.bad in simp no
+no_text s (BadByte k) h = let no : all_in_text s ≡ false = list_all_at in_text s k 0 h.there h.bad in simp no
 no_text s TooLong h =
     let all = all_in s h.1 in
     let long : leb (length s) longest_text ≡ false = grind (arith, nat_tests) in

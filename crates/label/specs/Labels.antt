@@ -9,7 +9,7 @@
 --   Answered why r before after done   the answer r of a call that may refuse: where it is Ok, there is no reason why to
 --                    refuse, and the label is as done says; where it is an error, that is the reason, and nothing has changed
 --   Acted a r before after   the answer r to an action; without one it is Ok, and nothing has changed
-use Rattle.std.specs.Prelude.{◌≡◌, ℕ, Bool, cond, List, [], ◌∷◌, ◌++◌, map, length, take, Some, None, Ok, Err, Option, Result, nat_lt}
+use Rattle.std.specs.Prelude.{◌≡◌, ℕ, Bool, cond, List, [], ◌∷◌, ◌++◌, length, Some, None, Ok, Err, Option, Result, nat_lt}
 use Rattle.limits.specs.Limits.{most_drawings}
 use Rattle.faults.specs.declared.Refusal.{Refusal}
 use Rattle.faults.specs.declared.Refusal.TheVariants.{NoFormat as RefusedNoFormat, FieldLinked as RefusedFieldLinked, JoinedTooLong as RefusedJoinedTooLong, OutsideCheck as RefusedOutsideCheck, TooManyDrawings as RefusedTooManyDrawings}
@@ -20,16 +20,18 @@ use Rattle.fields.specs.Tables.{Table, blank_table, seen_fields}
 use Rattle.fields.specs.Calls.{replaced, replace_refusal, retexted, text_refusal, cleared, turned_table}
 use Rattle.fields.specs.Linking.{linked, link_refusal}
 use Rattle.fields.specs.declared.fault.FieldFault.{FieldFault}
-use Rattle.fields.specs.declared.fault.FieldFault.TheVariants.{NoFormat as FieldNoFormat, FieldLinked as FieldFieldLinked, JoinedTooLong as FieldJoinedTooLong, OutsideCheck as FieldOutsideCheck}
+use Rattle.fields.specs.declared.fault.FieldFault.TheVariants.{NoFormat, FieldLinked, JoinedTooLong, OutsideCheck}
 use Rattle.picture.specs.Picture.{white, picture}
 use Rattle.picture.specs.declared.drawing.Drawing.{Drawing}
+use Rattle.label.specs.Values.{strings_of}
 use Rattle.label.specs.Actions.{Action, set_size, clear, set_format, set_text, set_links, draw}
 use Rattle.label.specs.declared.action.Action.{Action as Asked}
 use Rattle.label.specs.declared.action.Action.TheVariants.{SetSize, Clear, SetFormat, SetText, SetLinks, Draw}
 use Rattle.label.specs.declared.fault.LabelFault.{LabelFault}
-use Rattle.label.specs.declared.fault.LabelFault.TheVariants.{NoFormat, FieldLinked, JoinedTooLong, OutsideCheck, TooManyDrawings}
-use Rattle.label.specs.declared.drawings.Drawings.{Drawings}
+use Rattle.label.specs.declared.fault.LabelFault.TheVariants.{Field as OfField, TooManyDrawings}
 use Rattle.label.specs.declared.label.Label.{Label}
+use Rattle.fixedvec.specs.Items.{items}
+use Rattle.fixedvec.specs.declared.FixedVec.{FixedVec}
 
 pub record LabelSeen : Type 0 where
   pub pitch : ℕ
@@ -41,19 +43,19 @@ pub record LabelSeen : Type 0 where
 abbrev pub new_label : LabelSeen
 new_label = record { pitch = 520; width = 540; long = 500; table = blank_table; drawings = [] }
 
-abbrev pub seen_drawings : Drawings → List Drawing
-seen_drawings d = take d.len d.items
+abbrev pub seen_drawings : FixedVec Drawing most_drawings → List Drawing
+seen_drawings d = items d
 
 abbrev pub seen_label : Label → LabelSeen
 seen_label l =
-    record { pitch = l.pitch; width = l.width; long = l.length; table = seen_fields l.fields; drawings = seen_drawings l.drawings }
+    record { pitch = l.sizes.pitch; width = l.sizes.width; long = l.sizes.length; table = seen_fields l.fields; drawings = seen_drawings l.drawings }
 
 abbrev pub seen_action : Asked → Action
-seen_action (SetSize pitch width long) = set_size pitch width long
+seen_action (SetSize s) = set_size s.pitch s.width s.length
 seen_action Clear = clear
 seen_action (SetFormat name f t) = set_format name (seen_format f) (contents t)
 seen_action (SetText name t) = set_text name (contents t)
-seen_action (SetLinks strings) = set_links (map contents strings)
+seen_action (SetLinks bytes) = set_links (strings_of bytes.now)
 seen_action (Draw d) = draw d
 
 abbrev pub seen_action_of : Option Asked → Option Action
@@ -61,16 +63,13 @@ seen_action_of None = None
 seen_action_of (Some a) = Some (seen_action a)
 
 abbrev pub fault_of : FieldFault → LabelFault
-fault_of FieldNoFormat = NoFormat
-fault_of FieldFieldLinked = FieldLinked
-fault_of FieldJoinedTooLong = JoinedTooLong
-fault_of FieldOutsideCheck = OutsideCheck
+fault_of e = OfField e
 
 abbrev pub refusal_of : LabelFault → Refusal
-refusal_of NoFormat = RefusedNoFormat
-refusal_of FieldLinked = RefusedFieldLinked
-refusal_of JoinedTooLong = RefusedJoinedTooLong
-refusal_of OutsideCheck = RefusedOutsideCheck
+refusal_of (OfField NoFormat) = RefusedNoFormat
+refusal_of (OfField FieldLinked) = RefusedFieldLinked
+refusal_of (OfField JoinedTooLong) = RefusedJoinedTooLong
+refusal_of (OfField OutsideCheck) = RefusedOutsideCheck
 refusal_of TooManyDrawings = RefusedTooManyDrawings
 
 abbrev pub from_field : Option FieldFault → Option LabelFault

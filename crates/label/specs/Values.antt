@@ -5,10 +5,11 @@
 --   signed bs, step_of s   a sign and ten digits as a number; a step that is not given is 0
 --   kept_of s         the places that zero suppression keeps, if it is given
 --   text_of bs        a text; bytes that are none are the empty text
---   before bs, behind bs   what stands before the first comma, and what stands behind it; without a comma all and nothing
---   pieces n bs       n strings parted by commas; one that was not sent is empty
+--   parted bs         the strings that commas part
+--   pieces n bs       the first n of them; one that was not sent is empty
 --   links_of bs       up to four link numbers parted by commas; one that no string has is left out
-use Rattle.std.specs.Prelude.{ℕ, zero, suc, ◌+◌, min, Bool, true, false, cond, List, [], ◌∷◌, ◌++◌, map, length, take, drop, ℤ, pos, neg_ℤ, Some, None, Option, ◌==◌, nat_eq, nat_le}
+use Rattle.std.specs.Prelude.{ℕ, ◌-◌, min, Bool, cond, List, [], ◌∷◌, ◌++◌, map, length, take, drop, replicate, ℤ, pos, neg_ℤ, Some, None, Option, ◌==◌, nat_eq, nat_le}
+use Rattle.std.specs.List.{list_all, slice_split}
 use Rattle.limits.specs.Bytes.{in_text}
 use Rattle.limits.specs.Limits.{longest_text}
 use Rattle.fields.specs.Records.{link_taken}
@@ -39,26 +40,16 @@ kept_of (given p bs) = Some (small bs)
 kept_of (linked p bs) = Some (small bs)
 
 abbrev pub all_in_text : List ℕ → Bool
-all_in_text [] = true
-all_in_text (b ∷ bs) = cond (in_text b) (all_in_text bs) false
+all_in_text bs = list_all in_text bs
 
 unfoldable pub text_of : List ℕ → List ℕ
 text_of bs = cond (all_in_text bs) (cond (nat_le (length bs) longest_text) bs []) []
 
--- the place of the first comma, or the length
-abbrev pub comma_at : List ℕ → ℕ
-comma_at [] = 0
-comma_at (b ∷ bs) = cond (b == 44) 0 (1 + comma_at bs)
-
-unfoldable pub before : List ℕ → List ℕ
-before bs = take (comma_at bs) bs
-
-unfoldable pub behind : List ℕ → List ℕ
-behind bs = drop (comma_at bs + 1) bs
+abbrev pub parted : List ℕ → List (List ℕ)
+parted bs = slice_split (λ b. b == 44) bs
 
 abbrev pub pieces : ℕ → List ℕ → List (List ℕ)
-pieces zero bs = []
-pieces (suc n) bs = before bs ∷ pieces n (behind bs)
+pieces n bs = take n (parted bs) ++ replicate (n - length (parted bs)) []
 
 unfoldable pub with_link : List ℕ → ℕ → List ℕ
 with_link ns n = cond (link_taken ns n) (ns ++ n ∷ []) ns
@@ -68,7 +59,7 @@ with_links ns [] = ns
 with_links ns (b ∷ bs) = with_links (with_link ns (small b)) bs
 
 unfoldable pub links_of : List ℕ → List ℕ
-links_of bs = with_links [] (pieces 4 bs)
+links_of bs = with_links [] (take 4 (parted bs))
 
 -- the eight link strings that a command sends at most
 unfoldable pub strings_of : List ℕ → List (List ℕ)

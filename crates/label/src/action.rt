@@ -5,7 +5,7 @@ ghost use Rattle.label.specs.Actions.{action_of};
 ghost use Rattle.label.specs.Labels.{seen_action_of};
 
 use crate::formats::{bar_format, source_text, text_format};
-use crate::lists::strings_of;
+use crate::label::Sizes;
 use crate::shapes::{area_drawing, line_drawing};
 use crate::values::{figure, small, text_of};
 use fields::format::Format;
@@ -15,12 +15,8 @@ use picture::drawing::Drawing;
 use texts::text::Text;
 
 #[derive(Clone, Copy)]
-pub(crate) enum Action {
-    SetSize {
-        pitch: u16,
-        width: u16,
-        length: u16,
-    },
+pub(crate) enum Action<'a> {
+    SetSize(Sizes),
     Clear,
     SetFormat {
         name: FieldName,
@@ -31,20 +27,21 @@ pub(crate) enum Action {
         name: FieldName,
         text: Text,
     },
-    SetLinks([Text; 8]),
+    // The link strings, parted by commas: eight texts would make every action as large as they are.
+    SetLinks(&'a [u8]),
     Draw(Drawing),
 }
 
 // None, where the command is no label command.
-pub(crate) fn action_of(command: &Command<'_>) -> Option<Action>
+pub(crate) fn action_of<'a>(command: &Command<'a>) -> Option<Action<'a>>
     ensures { seen_action_of result ≡ action_of (plain_of command.now) }
 {
     match command {
-        Command::SetSize(sent) => Some(Action::SetSize {
+        Command::SetSize(sent) => Some(Action::SetSize(Sizes {
             pitch: figure(sent.pitch.bytes),
             width: figure(sent.width.bytes),
             length: figure(sent.length.bytes),
-        }),
+        })),
         Command::Clear => Some(Action::Clear),
         Command::FormatText(sent) => Some(Action::SetFormat {
             name: FieldName::Text(small(sent.field.bytes)),
@@ -56,7 +53,7 @@ pub(crate) fn action_of(command: &Command<'_>) -> Option<Action>
             format: bar_format(sent),
             text: source_text(sent.extras.source),
         }),
-        Command::SetLinks(sent) => Some(Action::SetLinks(strings_of(sent.bytes))),
+        Command::SetLinks(sent) => Some(Action::SetLinks(sent.bytes)),
         Command::SetText(sent) => Some(Action::SetText {
             name: FieldName::Text(small(sent.field.bytes)),
             text: text_of(sent.text.bytes),

@@ -7,12 +7,7 @@ use fields::fault::FieldFault;
 
 #[derive(Clone, Copy, PartialEq, Eq, Debug)]
 pub enum LabelFault {
-    NoFormat,
-    // The text of a linked field comes from link strings alone.
-    FieldLinked,
-    JoinedTooLong,
-    // A character outside the set of the field's check.
-    OutsideCheck,
+    Field(FieldFault),
     TooManyDrawings,
 }
 
@@ -20,12 +15,7 @@ impl From<FieldFault> for LabelFault {
     ghost from_gives = { λ e r. r ≡ fault_of e };
 
     fn from(e: FieldFault) -> LabelFault {
-        match e {
-            FieldFault::NoFormat => LabelFault::NoFormat,
-            FieldFault::FieldLinked => LabelFault::FieldLinked,
-            FieldFault::JoinedTooLong => LabelFault::JoinedTooLong,
-            FieldFault::OutsideCheck => LabelFault::OutsideCheck,
-        }
+        LabelFault::Field(e)
     }
 }
 
@@ -34,10 +24,10 @@ impl From<LabelFault> for Refusal {
 
     fn from(e: LabelFault) -> Refusal {
         match e {
-            LabelFault::NoFormat => Refusal::NoFormat,
-            LabelFault::FieldLinked => Refusal::FieldLinked,
-            LabelFault::JoinedTooLong => Refusal::JoinedTooLong,
-            LabelFault::OutsideCheck => Refusal::OutsideCheck,
+            LabelFault::Field(FieldFault::NoFormat) => Refusal::NoFormat,
+            LabelFault::Field(FieldFault::FieldLinked) => Refusal::FieldLinked,
+            LabelFault::Field(FieldFault::JoinedTooLong) => Refusal::JoinedTooLong,
+            LabelFault::Field(FieldFault::OutsideCheck) => Refusal::OutsideCheck,
             LabelFault::TooManyDrawings => Refusal::TooManyDrawings,
         }
     }

@@ -2,54 +2,28 @@
 ghost use Rattle.std.specs.Prelude.{◌≡◌};
 ghost use Rattle.texts.specs.Contents.{contents};
 ghost use Rattle.fields.specs.Records.{seen_links, seen_format};
-ghost use Rattle.jobparts.specs.Slots.{option_slot, source_slot};
+ghost use Rattle.jobparts.specs.Slots.{source_slot};
 ghost use Rattle.jobgroups.specs.Commands.{plain_of};
 ghost use Rattle.jobgroups.specs.declared.command.Command.TheVariants.{FormatText, FormatBar};
-ghost use Rattle.label.specs.Actions.{figure_check, bar_check, bar_kind, source_text, source_links, text_layout, bar_layout};
+ghost use Rattle.label.specs.Actions.{bar_kind, source_text, source_links, text_layout, bar_layout};
 
 use crate::lists::links_of;
 use crate::values::{figure, kept_of, step_of, text_of};
 use fields::format::{Format, Kind};
 use fields::links::Links;
 use jobgroups::command::{BarFormat, TextFormat};
-use jobparts::part::{Part, Source};
+use jobparts::part::Source;
 use jobparts::values::number_of;
-use texts::checks::Check;
+use jobvalues::commands::{bar_check, text_check};
 use texts::text::Text;
-
-// M0 is modulus 10, M1 modulus 43.
-fn figure_check(check: Option<Part<'_>>) -> Check
-    ensures { result ≡ figure_check (option_slot check.entry) }
-{
-    match check {
-        Some(part) => if number_of(part.bytes) == 0 {
-            Check::Modulus10
-        } else {
-            Check::Modulus43
-        },
-        None => Check::NoCheck,
-    }
-}
-
-// The check of a bar: 3 is modulus 43.
-fn bar_check(bytes: &[u8]) -> Check
-    ensures { result ≡ bar_check bytes.now }
-{
-    if number_of(bytes) == 3 {
-        Check::Modulus43
-    } else {
-        Check::NoCheck
-    }
-}
 
 // The type of a bar: 3 or 9.
 fn bar_kind(bytes: &[u8]) -> Kind
     ensures { result ≡ bar_kind bytes.now }
 {
-    if number_of(bytes) == 9 {
-        Kind::Code128
-    } else {
-        Kind::Code39
+    match number_of(bytes) {
+        9 => Kind::Code128,
+        _ => Kind::Code39,
     }
 }
 
@@ -59,8 +33,7 @@ pub(crate) fn source_text(source: Source<'_>) -> Text
 {
     match source {
         Source::Text(part) => text_of(part.bytes),
-        Source::Nothing => Text::empty(),
-        Source::Links(_) => Text::empty(),
+        Source::Nothing | Source::Links(_) => Text::empty(),
     }
 }
 
@@ -69,8 +42,7 @@ fn source_links(source: Source<'_>) -> Links
 {
     match source {
         Source::Links(part) => links_of(part.bytes),
-        Source::Nothing => Links::none(),
-        Source::Text(_) => Links::none(),
+        Source::Nothing | Source::Text(_) => Links::none(),
     }
 }
 
@@ -81,7 +53,7 @@ pub(crate) fn text_format(sent: &TextFormat<'_>) -> Format
     Format {
         x: figure(sent.origin.x.bytes),
         y: figure(sent.origin.y.bytes),
-        check: figure_check(sent.check),
+        check: text_check(sent.check),
         step: step_of(sent.extras.step),
         kept: kept_of(sent.extras.zeros),
         links: source_links(sent.extras.source),
@@ -90,13 +62,14 @@ pub(crate) fn text_format(sent: &TextFormat<'_>) -> Format
 }
 
 // What an XB sets of its field.
+// Kept so: one function for both formats would have to say all seven parts again in a contract of its own.
 pub(crate) fn bar_format(sent: &BarFormat<'_>) -> Format
     ensures { seen_format result ≡ bar_layout (plain_of (FormatBar sent.now)).parts }
 {
     Format {
         x: figure(sent.origin.x.bytes),
         y: figure(sent.origin.y.bytes),
-        check: bar_check(sent.code.check.bytes),
+        check: bar_check(sent.code.check),
         step: step_of(sent.extras.step),
         kept: kept_of(sent.extras.zeros),
         links: source_links(sent.extras.source),

@@ -2,12 +2,17 @@
 use crate::drawings::Drawings;
 use fields::table::Fields;
 
+// In tenths of a millimetre.
 #[derive(Clone, Copy)]
-pub struct Label {
-    // Sizes in tenths of a millimetre.
+pub(crate) struct Sizes {
     pub(crate) pitch: u16,
     pub(crate) width: u16,
     pub(crate) length: u16,
+}
+
+#[derive(Clone, Copy)]
+pub struct Label {
+    pub(crate) sizes: Sizes,
     pub(crate) fields: Fields,
     pub(crate) drawings: Drawings,
 }

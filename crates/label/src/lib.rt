@@ -2,7 +2,7 @@
 #![tactic(auto)]
 
 mod action;
-pub mod drawings;
+mod drawings;
 pub mod fault;
 mod formats;
 pub mod label;

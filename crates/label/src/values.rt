@@ -34,6 +34,7 @@ pub fn small(bytes: &[u8]) -> u8
 }
 
 // A sign and ten digits.
+// Kept so: jobvalues::numbers::step_of takes the rest of ten digits. The two differ on bytes that are no digits, and each has its own promise.
 fn signed(bytes: &[u8]) -> i64
     ensures { result ≡ signed bytes.now }
 {
@@ -45,28 +46,19 @@ fn signed(bytes: &[u8]) -> i64
 pub(crate) fn step_of(step: Option<Part<'_>>) -> i64
     ensures { result ≡ step_of (option_slot step.entry) }
 {
-    match step {
-        Some(part) => signed(part.bytes),
-        None => 0,
-    }
+    step.map_or(0, |part| signed(part.bytes))
 }
 
 // The places that zero suppression keeps.
 pub(crate) fn kept_of(zeros: Option<Part<'_>>) -> Option<u8>
     ensures { result ≡ kept_of (option_slot zeros.entry) }
 {
-    match zeros {
-        Some(part) => Some(small(part.bytes)),
-        None => None,
-    }
+    zeros.map(|part| small(part.bytes))
 }
 
 // Bytes that are no text are the empty text.
 pub(crate) fn text_of(bytes: &[u8]) -> Text
     ensures { contents result ≡ text_of bytes.now }
 {
-    match Text::from_bytes(bytes) {
-        Ok(text) => text,
-        Err(_) => Text::empty(),
-    }
+    Text::from_bytes(bytes).unwrap_or_else(|_| Text::empty())
 }

@@ -1,6 +1,5 @@
 // What the commands of a job do to a label, told by its line and its picture.
 use faults::Refusal;
-use job::fault::refusal_of;
 use job::read::read;
 use label::label::Label;
 use limits::sizes::PICTURE_BYTES;
@@ -11,14 +10,13 @@ use std::test::Fail;
 // The command at a place of a job is done; answers the place behind it.
 fn act(label: &mut Label, job: &[u8], at: usize) -> Result<usize, Refusal> {
     let (answer, next) = read(job, at);
-    match answer {
-        Ok(command) => label.act(&command)?,
-        Err(fault) => return Err(refusal_of(fault.refusal)),
-    }
+    let command = answer.map_err(Refusal::from)?;
+    label.act(&command)?;
     Ok(next)
 }
 
 // All commands of a job are accepted.
+// Kept so: a while would want a contract of `act`, and its proof, in a test.
 fn does(label: &mut Label, job: &[u8]) -> Result<(), Fail> {
     let mut at = 0;
     for _ in 0..job.len() {
@@ -43,11 +41,10 @@ fn prints(rt: &impl Abort, label: &Label, line: &[u8]) -> Result<(), Fail> {
 fn shows(rt: &impl Abort, heap: Global, label: &Label, black: u32) -> Result<(), Fail> {
     let mut dots = vec![in heap; 0xaa; PICTURE_BYTES]?;
     label.draw(&mut dots)?;
-    let mut n: u32 = 0;
-    for b in &dots {
-        n = n.saturating_add(b.count_ones());
-    }
-    assert_eq!(rt; n, black);
+    let shown = dots
+        .iter()
+        .fold(0_u32, |n, b| n.saturating_add(b.count_ones()));
+    assert_eq!(rt; shown, black);
     Ok(())
 }
 

@@ -1,44 +1,11 @@
--- The buffers of a run, of which each call is lent a front.
-use Rattle.std.proofs.Common.{◌≡◌, ℕ, ◌+◌, ◌-◌, ◌<◌, ◌≤◌, min, Bool, List, [], ◌∷◌, ◌++◌, length, get_or, take, drop, set, sym, refl, ap, ◌∙◌, subst, ap₂, arith, length-take}
+-- What the calls of a run leave in its buffers.
+use Rattle.std.proofs.Common.{◌≡◌, ℕ, ◌+◌, ◌<◌, ◌≤◌, Bool, List, [], ◌∷◌, ◌++◌, length, get_or, take, set, sym, refl, ap, ◌∙◌, subst, ap₂}
 use Rattle.std.proofs.lemmas.List.{take_more_set, take_all}
-use Rattle.station.specs.Steps.{command, Step, answer_after, work_after}
+use Rattle.station.specs.Steps.{Step}
 use Rattle.station.specs.Views.{View}
 use Rattle.ledger.specs.Asking.{call_of, answer_left, work_left, Does}
 use Rattle.ledger.specs.declared.asking.Entry.{Entry}
 use Rattle.ledger.proofs.Logs.{noted}
-
--- ---- a command that is lent the fronts of the buffers
-module _ (v : View) (job : List ℕ) (at lent room : ℕ) (answer work : List ℕ) (a w : ℕ) (front : a ≡ min lent (length answer)) (space : w ≡ min room (length work)) where
-  front' : a - 0 ≡ min lent (length answer)
-  front' = omega (arith, front)
-
-  space' : w - 0 ≡ min room (length work)
-  space' = omega (arith, space)
-
-  long : length (take (a - 0) answer) ≡ min lent (length answer)
-  long = length-take (a - 0) answer ∙ omega (arith, front)
-
-  wide : length (take (w - 0) work) ≡ min room (length work)
-  wide = length-take (w - 0) work ∙ omega (arith, space)
-
-  pub answer_lent : (out : List ℕ) → out ≡ answer_after v job at (take (a - 0) answer) (length (take (w - 0) work))
-      → out ++ drop (a - 0) answer ≡ answer_after v job at (take (min lent (length answer)) answer) (min room (length work)) ++ drop (min lent (length answer)) answer
-  answer_lent out e =
-      ap (λ (x : List ℕ). x ++ drop (a - 0) answer) e
-      ∙ ap (λ (k : ℕ). answer_after v job at (take (a - 0) answer) k ++ drop (a - 0) answer) wide
-      ∙ ap (λ (k : ℕ). answer_after v job at (take k answer) (min room (length work)) ++ drop k answer) front'
-
-  pub work_lent : (out : List ℕ) → out ≡ work_after v job at (length (take (a - 0) answer)) (take (w - 0) work)
-      → out ++ drop (w - 0) work ≡ work_after v job at (min lent (length answer)) (take (min room (length work)) work) ++ drop (min room (length work)) work
-  work_lent out e =
-      ap (λ (x : List ℕ). x ++ drop (w - 0) work) e
-      ∙ ap (λ (k : ℕ). work_after v job at k (take (w - 0) work) ++ drop (w - 0) work) long
-      ∙ ap (λ (k : ℕ). work_after v job at (min lent (length answer)) (take k work) ++ drop k work) space'
-
-  pub step_lent : (ok : Bool) (x : View) → Step v (command job at (length (take (a - 0) answer)) (length (take (w - 0) work))) ok x → Step v (command job at (min lent (length answer)) (min room (length work))) ok x
-  step_lent ok x s =
-      subst (λ (k : ℕ). Step v (command job at (min lent (length answer)) k) ok x) wide
-      (subst (λ (k : ℕ). Step v (command job at k (length (take (w - 0) work))) ok x) long s)
 
 -- ---- one call more
 does_more : (u v x : View) (answer work a w : List ℕ) (es : List Entry) (e : Entry) → Does u answer work es v a w → Step v (call_of (length a) (length w) e.call) e.accepted x

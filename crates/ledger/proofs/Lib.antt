@@ -6,7 +6,6 @@ pub mod Calls
 pub mod Bond
 pub mod Recalls
 pub mod Runs
-pub mod Shifted
 pub mod Moved
 pub mod Reading
 pub mod Logs

@@ -1,20 +1,20 @@
 -- A command reads alike wherever it stands in a job, and by itself.
-use Rattle.std.proofs.Common.{◌≡◌, ℕ, ◌+◌, ◌-◌, ◌<◌, ◌≤◌, min, Bool, true, false, cond, eqb, ltb, List, [], ◌∷◌, ◌++◌, length, get_or, take, drop, Some, None, Ok, Err, Option, Result, sym, refl, ap, ◌∙◌, subst, ap₂, arith, length-append, take-append-drop, length-take, take_all, get_or-append-add}
+use Rattle.std.proofs.Common.{◌≡◌, ℕ, ◌+◌, ◌-◌, ◌<◌, ◌≤◌, min, Bool, true, false, cond, eqb, ltb, List, [], ◌∷◌, ◌++◌, length, get_or, take, drop, Some, Ok, Err, Result, sym, refl, ap, ◌∙◌, subst, ap₂, arith, length-append, take-append-drop, length-take, take_all, get_or-append-add}
 use mathlib.Core.Path.{subst⁻¹}
 use lib.ListN.{get_or-append}
-use lib.Seq.{drop-append_seam, take-append-add, drop-append-add, take-append-le}
+use lib.Seq.{drop-append_seam, take-append-add, take-append-le}
 use Rattle.std.specs.Option.{option_map}
 use Rattle.limits.specs.Limits.{longest_job, longest_command}
 use Rattle.jobparts.specs.Kinds.{stands}
 use Rattle.jobparts.specs.declared.part.ReadRefusal.TheVariants.{OutOfBounds, AtEnd, NoEscape, NoEnding}
 use Rattle.jobparts.specs.declared.part.Wrong.{Wrong}
-use Rattle.jobgroups.specs.Commands.{Plain, command_at}
-use Rattle.jobgroups.specs.Table.{letters_of, order}
-use Rattle.jobgroups.specs.declared.letters.Letters.{Letters}
-use Rattle.job.specs.Reading.{first_led, parsed_at, before, fault, next_escape, open_at, begin_at, ending_at, then_read, placed, body_at, read_at}
+use Rattle.jobgroups.specs.Commands.{Plain}
+use Rattle.job.specs.Reading.{before, fault, next_escape, open_at, begin_at, ending_at, then_read, placed, body_at, read_at}
 use Rattle.job.specs.declared.fault.ReadFault.{ReadFault}
 use Rattle.ledger.proofs.Basics.{below, is_below, not_below, is_not_below, never, not_none, not_ok, some_inj, ok_inj, ok_of, ok_from}
-use Rattle.ledger.proofs.Shifted.{cond_shift, shift_plain, ltb_behind, command_shift}
+use Rattle.joblaw.specs.Located.{shift_plain, moved}
+use Rattle.joblaw.proofs.Leaves.{order_moved}
+use Rattle.joblaw.proofs.Bodies.{body_moves}
 
 abbrev same : Unit {0} → Unit {0}
 same u = u
@@ -30,6 +30,14 @@ module _ {X Y : Type 0} (sx : X → X) (sy : Y → Y) where
   then_read_lem (Err a) (Ok x) f' f e h = not_none e
   then_read_lem (Err a) (Err b) f' f e h = refl
 
+module _ {X : Type 0} {E : Type 0} (sx : X → X) where
+  cond_shift : (b' b : Bool) (r' r s' s : Result X E) → b' ≡ b → ok_of r' ≡ option_map sx (ok_of r) → ok_of s' ≡ option_map sx (ok_of s) → ok_of (cond b' r' s') ≡ option_map sx (ok_of (cond b r s))
+  cond_shift b' b r' r s' s e h k = ap (λ (t : Bool). ok_of (cond t r' s')) e ∙ go b
+    where
+      go : (b : Bool) → ok_of (cond b r' s') ≡ option_map sx (ok_of (cond b r s))
+      go true = h
+      go false = k
+
 pub open_ok : (job : List ℕ) (at : ℕ) → length job ≤ longest_job → at ≤ length job → open_at job at ≡ Ok tt
 open_ok job at short within =
     ap₂ (λ (a b : Bool). cond a (Err (fault OutOfBounds at at)) (cond b (Err (fault OutOfBounds at at)) (Ok tt)))
@@ -42,18 +50,15 @@ module _ (pre s : List ℕ) where
 
   body_shift : (body : List ℕ) → ok_of (body_at (pre ++ body) (length pre)) ≡ option_map (shift_plain (length pre)) (ok_of (body_at body 0))
   body_shift body =
-      ap (λ (x : List ℕ). ok_of (parsed_at (first_led order x) (pre ++ body) (length pre) (length pre + 1))) (drop-append-add pre body 1)
-      ∙ go (first_led order (drop 1 body))
+      ap (λ (n : ℕ). ok_of (body_at (pre ++ body) n)) at_front ∙ ap ok_of (body_moves pre body 0) ∙ go (body_at body 0)
     where
-      go : (o : Option Letters) → ok_of (parsed_at o (pre ++ body) (length pre) (length pre + 1)) ≡ option_map (shift_plain (length pre)) (ok_of (parsed_at o body 0 1))
-      go None = refl
-      go (Some c) =
-          let z : length pre + 1 + length (letters_of c) ≡ length pre + (1 + length (letters_of c)) = omega arith in
-          ap (λ (n : ℕ). ok_of (command_at c (pre ++ body) n)) z ∙ command_shift pre body c (1 + length (letters_of c))
+      go : (r : Result Plain Wrong) → ok_of (moved (shift_plain (length pre)) (length pre) r) ≡ option_map (shift_plain (length pre)) (ok_of r)
+      go (Ok x) = refl
+      go (Err w) = refl
 
   begin_shift : ok_of (begin_at (pre ++ s) (length pre)) ≡ option_map same (ok_of (begin_at s 0))
   begin_shift =
-      cond_shift same _ _ _ _ _ _ (ap (λ (n : ℕ). ltb n (length (pre ++ s))) at_front ∙ ltb_behind pre s 0)
+      cond_shift same _ _ _ _ _ _ (ap (λ (n : ℕ). ltb n (length (pre ++ s))) at_front ∙ order_moved pre s 0)
       (cond_shift same _ _ _ _ _ _ (ap (λ (n : ℕ). eqb (get_or (pre ++ s) n 0) 27) at_front ∙ ap (λ (b : ℕ). eqb b 27) (get_or-append-add pre s 0 0)) refl refl) refl
 
   ending_shift : ok_of (ending_at (pre ++ s) (length pre)) ≡ option_map (λ n. length pre + n) (ok_of (ending_at s 0))

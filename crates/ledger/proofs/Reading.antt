@@ -14,7 +14,7 @@ use Rattle.station.specs.Reads.{read_at, next_at}
 use Rattle.station.specs.Requests.{request_of, request_by, other_request}
 use Rattle.ledger.proofs.Readers.{Whole, Located, Cut, Reader}
 use Rattle.ledger.proofs.Basics.{ok_inj, not_ok}
-use Rattle.ledger.proofs.Shifted.{shift_slot, shift_plain}
+use Rattle.joblaw.specs.Located.{shift_slot, shift_plain}
 use Rattle.ledger.proofs.Moved.{Alone, located, cut}
 
 -- ---- what a command asks does not hang on the places of its parts

@@ -15,6 +15,7 @@ pub enum Asked<'a> {
     Reload,
 }
 
+// Kept so: a call is accepted or refused, and the ledger takes no other word of it; there is no value beside the flag.
 #[derive(Clone, Copy)]
 pub struct Entry<'a> {
     pub call: Asked<'a>,

@@ -10,6 +10,8 @@ use station::state::Station;
 use stores::store::FormStore;
 use texts::rule::CountingRule;
 
+// Kept so: the buffers are the caller's, who may lend any length of each, and every length has its answer.
+
 // A command; tells whether it was accepted.
 fn send<S: FormStore, P: Printer, R1: CountingRule, R2: CountingRule>(
     station: &mut Station<S, P, R1, R2>,
@@ -22,10 +24,7 @@ fn send<S: FormStore, P: Printer, R1: CountingRule, R2: CountingRule>(
     ensures answer { answer.new ≡ answer_after (seen S.FormStore P.Printer R1.CountingRule R2.CountingRule station.old) job.now at answer.old (length work.old) }
     ensures work { work.new ≡ work_after (seen S.FormStore P.Printer R1.CountingRule R2.CountingRule station.old) job.now at (length answer.old) work.old }
 {
-    match station.command(job, at, answer, work) {
-        Ok(_) => true,
-        Err(_) => false,
-    }
+    station.command(job, at, answer, work).is_ok()
 }
 
 // A print; tells whether it was accepted.
@@ -36,10 +35,7 @@ fn tag<S: FormStore, P: Printer, R1: CountingRule, R2: CountingRule>(
     ensures step { Step (seen S.FormStore P.Printer R1.CountingRule R2.CountingRule station.old) (print (length work.old)) result (seen S.FormStore P.Printer R1.CountingRule R2.CountingRule station.new) }
     ensures work { work.new ≡ print_work (print_fault (seen S.FormStore P.Printer R1.CountingRule R2.CountingRule station.old) (length work.old)) (next_line (seen S.FormStore P.Printer R1.CountingRule R2.CountingRule station.old)) work.old }
 {
-    match station.print(work) {
-        Ok(_) => true,
-        Err(_) => false,
-    }
+    station.print(work).is_ok()
 }
 
 // Any call, lent as many bytes of the buffers as it says, at most all; tells whether it was accepted.
@@ -62,11 +58,11 @@ pub fn perform<S: FormStore, P: Printer, R1: CountingRule, R2: CountingRule>(
         } => {
             let a = lent.min(answer.len());
             let w = room.min(work.len());
-            send(station, job, at, &mut answer[0..a], &mut work[0..w])
+            send(station, job, at, &mut answer[..a], &mut work[..w])
         }
         Asked::Print { work: room } => {
             let w = room.min(work.len());
-            tag(station, &mut work[0..w])
+            tag(station, &mut work[..w])
         }
         Asked::Reload => {
             station.reload();

@@ -6,19 +6,19 @@ ghost use Rattle.limits.specs.Bytes.{is_digit, is_capital, in_text};
 pub fn is_digit(b: u8) -> bool
     ensures { result ≡ is_digit b }
 {
-    b >= b'0' && b <= b'9'
+    b.is_ascii_digit()
 }
 
 // One of A to Z.
 pub fn is_capital(b: u8) -> bool
     ensures { result ≡ is_capital b }
 {
-    b >= b'A' && b <= b'Z'
+    b.is_ascii_uppercase()
 }
 
 // A byte that a text may hold: 20H to 7EH, but no comma.
 pub fn is_in_text(b: u8) -> bool
     ensures { result ≡ in_text b }
 {
-    b >= 0x20 && b <= 0x7e && b != b','
+    matches!(b, 0x20..=0x7e) && b != b','
 }

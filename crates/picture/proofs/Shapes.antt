@@ -1,12 +1,9 @@
 -- What a span of dots says of the tenths that it was made from, and a rectangle in four parts.
-use Rattle.std.proofs.Common.{◌≡◌, ℕ, ◌+◌, min, max, Bool, true, cond, not, ◌&&◌, ◌||◌, ltb, leb, ap₂, arith}
+use Rattle.std.proofs.Common.{◌≡◌, ℕ, ◌+◌, min, max, Bool, true, cond, not, ◌&&◌, ◌||◌, arith}
 use Rattle.std.proofs.lemmas.Bool.Decides.{nat_tests}
-use Rattle.picture.specs.Places.{dot_of, amid, band}
+use Rattle.picture.specs.Places.{dot_of, amid}
 use Rattle.picture.specs.Spans.{within}
 use Rattle.picture.specs.declared.span.Span.{Span}
-
-pub band_is : (s : Span) (a thick : ℕ) → (s.from ≡ dot_of a) × (s.to ≡ dot_of a + thick) → (x : ℕ) → within s x ≡ band a thick x
-band_is s a thick h x = ap₂ (λ f t. leb f x && ltb x t) h.0 h.1
 
 pub between_is : (s : Span) (a b : ℕ) → (s.from ≡ min (dot_of a) (dot_of b)) × (s.to ≡ max (dot_of a) (dot_of b) + 1) → (x : ℕ) → within s x ≡ amid a b x
 between_is s a b h x = grind (arith, nat_tests)

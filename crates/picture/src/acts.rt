@@ -1,7 +1,6 @@
 // What one drawing does to the picture.
-ghost use Rattle.std.specs.Prelude.{◌≡◌, ◌≤◌, length};
-ghost use Rattle.limits.specs.Limits.{picture_bytes};
-ghost use Rattle.picture.specs.Drawings.{acts};
+ghost use Rattle.picture.specs.Drawings.{boxed, acts};
+ghost use Rattle.picture.specs.Inks.{inked};
 ghost use Rattle.picture.specs.Redrawn.{Redrawn};
 ghost use Rattle.picture.specs.declared.drawing.Drawing.TheVariants.{Rectangle};
 
@@ -9,10 +8,10 @@ use crate::drawing::{Drawing, Point};
 use crate::fill::fill_box;
 use crate::ink::Ink;
 use crate::span::{Edges, Span};
+use limits::sizes::PICTURE_BYTES;
 
 // Blackens the dots near a side of the box, each once: above, below, and at the left and the right of what lies between.
-fn draw_rectangle(corner: Point, opposite: Point, thick: u16, dots: &mut [u8])
-    requires { picture_bytes ≤ length dots.old }
+fn draw_rectangle(corner: Point, opposite: Point, thick: u16, dots: &mut [u8; PICTURE_BYTES])
     ensures { Redrawn (acts (Rectangle corner opposite thick)) dots.old dots.new }
 {
     let columns = Span::between(corner.x, opposite.x);
@@ -24,8 +23,19 @@ fn draw_rectangle(corner: Point, opposite: Point, thick: u16, dots: &mut [u8])
     fill_box(dots, rows.inner, beside.last, Ink::Black);
 }
 
-pub(crate) fn draw_one(drawing: Drawing, dots: &mut [u8])
-    requires { picture_bytes ≤ length dots.old }
+// Inks the dots of a box, its sides included.
+fn ink_box(corner: Point, opposite: Point, ink: Ink, dots: &mut [u8; PICTURE_BYTES])
+    ensures { Redrawn (λ r c. inked ink (boxed corner opposite r c)) dots.old dots.new }
+{
+    fill_box(
+        dots,
+        Span::between(corner.y, opposite.y),
+        Span::between(corner.x, opposite.x),
+        ink,
+    )
+}
+
+pub(crate) fn draw_one(drawing: Drawing, dots: &mut [u8; PICTURE_BYTES])
     ensures { Redrawn (acts drawing) dots.old dots.new }
 {
     match drawing {
@@ -46,21 +56,7 @@ pub(crate) fn draw_one(drawing: Drawing, dots: &mut [u8])
             opposite,
             thick,
         } => draw_rectangle(corner, opposite, thick, dots),
-        Drawing::Clear { corner, opposite } => {
-            fill_box(
-                dots,
-                Span::between(corner.y, opposite.y),
-                Span::between(corner.x, opposite.x),
-                Ink::White,
-            )
-        }
-        Drawing::Invert { corner, opposite } => {
-            fill_box(
-                dots,
-                Span::between(corner.y, opposite.y),
-                Span::between(corner.x, opposite.x),
-                Ink::Flip,
-            )
-        }
+        Drawing::Clear { corner, opposite } => ink_box(corner, opposite, Ink::White, dots),
+        Drawing::Invert { corner, opposite } => ink_box(corner, opposite, Ink::Flip, dots),
     }
 }

@@ -1,8 +1,7 @@
 // The picture of a label: what its drawings make of 400 rows of dots.
 #![tactic(auto)]
 
-ghost use Rattle.std.specs.Prelude.{◌≡◌, ◌≤◌, length, if◌then◌else◌, Ok, Err};
-ghost use Rattle.limits.specs.Limits.{picture_bytes};
+ghost use Rattle.std.specs.Prelude.{◌≡◌, if◌then◌else◌, Ok, Err};
 ghost use Rattle.picture.specs.Picture.{drawn, white, cut_at, picture, too_short, shown};
 ghost use Rattle.picture.specs.Redrawn.{Redrawn};
 ghost use Rattle.faults.specs.declared.Refusal.TheVariants.{ShortBuffer};
@@ -33,8 +32,7 @@ const ALL_COLUMNS: Span = Span {
 };
 
 // Draws one after the other.
-fn draw_all(drawings: &[Drawing], dots: &mut [u8])
-    requires { picture_bytes ≤ length dots.old }
+fn draw_all(drawings: &[Drawing], dots: &mut [u8; PICTURE_BYTES])
     ensures { Redrawn (drawn drawings.now) dots.old dots.new }
 {
     for drawing in drawings {
@@ -43,8 +41,7 @@ fn draw_all(drawings: &[Drawing], dots: &mut [u8])
 }
 
 // Whitens the dots from the label's width on and from its length on, each once.
-fn cut(label_width: u16, label_length: u16, dots: &mut [u8])
-    requires { picture_bytes ≤ length dots.old }
+fn cut(label_width: u16, label_length: u16, dots: &mut [u8; PICTURE_BYTES])
     ensures { Redrawn (cut_at label_width label_length) dots.old dots.new }
 {
     let beside = Span::starting(label_width, COLUMNS);
@@ -58,8 +55,7 @@ fn cut(label_width: u16, label_length: u16, dots: &mut [u8])
 }
 
 // Whitens every dot.
-fn whiten(dots: &mut [u8])
-    requires { picture_bytes ≤ length dots.old }
+fn whiten(dots: &mut [u8; PICTURE_BYTES])
     ensures { Redrawn (λ r c dot. white r c) dots.old dots.new }
 {
     fill_box(dots, ALL_ROWS, ALL_COLUMNS, Ink::White);
@@ -76,11 +72,11 @@ pub fn draw(
     ensures answer { result ≡ (if too_short dots.old then Err ShortBuffer else Ok tt) }
     ensures bytes { dots.new ≡ shown (picture white drawings.now label_width label_length) dots.old }
 {
-    if dots.len() < PICTURE_BYTES {
+    let Some(front) = dots.first_chunk_mut() else {
         return Err(Refusal::ShortBuffer);
-    }
-    whiten(dots);
-    draw_all(drawings, dots);
-    cut(label_width, label_length, dots);
+    };
+    whiten(front);
+    draw_all(drawings, front);
+    cut(label_width, label_length, front);
     Ok(())
 }

@@ -7,6 +7,7 @@ ghost use Rattle.picture.specs.Spans.{within};
 use crate::ink::mask;
 
 // The dots from `from` on and before `to`: none where `to` does not lie behind `from`.
+// Kept so: a Range of std is not Copy, while a span inks many rows, and it has no room for the methods below.
 #[derive(Clone, Copy)]
 pub(crate) struct Span {
     pub(crate) from: usize,

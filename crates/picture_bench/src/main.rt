@@ -34,29 +34,20 @@ fn full(letter: u8) -> Drawing {
     }
 }
 
-fn black(dots: &[u8]) -> u32 {
-    let mut n: u32 = 0;
-    for b in dots {
-        n = n.saturating_add(b.count_ones());
-    }
-    n
-}
-
 fn main(rt: HostRuntime) -> anyhow::Result<()> {
     let heap = rt.alloc();
     let mut line = String::new(heap);
     rt.read_line(&mut line)?;
     let mut drawings = Vec::new(heap);
-    for letter in line.as_bytes().iter().take(MOST_DRAWINGS) {
-        if *letter >= b'A' {
-            drawings.push(full(*letter))?;
-        }
+    let letters = line.as_bytes().iter().take(MOST_DRAWINGS);
+    for letter in letters.filter(|letter| **letter >= b'A') {
+        drawings.push(full(*letter))?;
     }
     let mut dots = vec![in heap; 0; PICTURE_BYTES]?;
-    if draw(&drawings, 540, 500, &mut dots).is_err() {
-        return Err(anyhow!("the buffer is too short"));
-    }
-    let n = black(&dots);
-    println!(rt; "{n}")?;
+    draw(&drawings, 540, 500, &mut dots).map_err(|_| anyhow!("the buffer is too short"))?;
+    let black = dots
+        .iter()
+        .fold(0_u32, |n, b| n.saturating_add(b.count_ones()));
+    println!(rt; "{black}")?;
     Ok(())
 }

@@ -34,11 +34,7 @@ fn at(x: u16, y: u16) -> Point {
 
 // How many dots are black.
 fn count(dots: &[u8]) -> u32 {
-    let mut n: u32 = 0;
-    for b in dots {
-        n = n.saturating_add(b.count_ones());
-    }
-    n
+    dots.iter().fold(0, |n, b| n.saturating_add(b.count_ones()))
 }
 
 // Draws over a buffer that is not white before, and looks.

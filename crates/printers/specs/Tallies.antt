@@ -2,7 +2,8 @@
 --   latest_of t     the latest line
 --   note_answer     what noting a line answers, by the tags taken and the line's length; a tally counts to 2 ^ 64 - 1
 --   taken_after, latest_after   the tags taken and the latest line then; a refusal leaves both
-use Rattle.std.specs.Prelude.{ℕ, ◌+◌, cond, List, take, Ok, Err, Result, nat_le}
+use Rattle.std.specs.Prelude.{ℕ, ◌+◌, cond, List, Ok, Err, Result, nat_le}
+use Rattle.fixedvec.specs.Items.{items}
 use Rattle.limits.specs.Bytes.{between}
 use Rattle.limits.specs.Limits.{longest_line}
 use Rattle.printers.specs.declared.fault.PrinterFault.{PrinterFault}
@@ -10,7 +11,7 @@ use Rattle.printers.specs.declared.fault.PrinterFault.TheVariants.{OutOfStock}
 use Rattle.printers.specs.declared.tally.Tally.{Tally}
 
 abbrev pub latest_of : Tally → List ℕ
-latest_of t = take t.len t.line
+latest_of t = items t.latest
 
 abbrev pub note_answer : ℕ → ℕ → Result (Unit {0}) PrinterFault
 note_answer taken long = cond (between 1 longest_line long) (cond (nat_le 18446744073709551615 taken) (Err OutOfStock) (Ok tt)) (Err OutOfStock)

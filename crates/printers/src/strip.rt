@@ -6,7 +6,9 @@ use crate::tally::Tally;
 
 mod prints;
 
+// Kept so: the bytes are the caller's, who sees all of them, also those behind the written ones, so they are no vector of `used` items.
 // `closed` is set by a reload once the last tag of all is taken: then there is no stock, although bytes are free.
+// Kept so: a closed strip still has its written bytes, so `used` and `closed` are no Option.
 #[derive(Drop)]
 pub struct Strip {
     tally: Tally,

@@ -1,4 +1,2 @@
 pub mod Goes
 pub mod Recalling
-pub mod Loading
-pub mod Tagging

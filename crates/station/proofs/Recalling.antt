@@ -1,18 +1,15 @@
 -- Doing a form's commands one after another: what is left to do gives what the whole form gives.
-use Rattle.std.proofs.Common.{◌≡◌, ℕ, zero, suc, ◌-◌, ◌<◌, ◌≤◌, true, false, cond, ltb, List, [], ◌∷◌, length, Ok, Err, Result, sym, refl, ap, ◌∙◌, arith}
+use Rattle.std.proofs.Common.{◌≡◌, ℕ, zero, suc, ◌-◌, ◌<◌, ◌≤◌, true, false, cond, ltb, List, [], ◌∷◌, length, Ok, Err, Result, sym, ap, ◌∙◌, arith}
 use Rattle.std.proofs.lemmas.Bool.Decides.{nat_tests}
 use Rattle.label.specs.Labels.{LabelSeen}
 use Rattle.station.specs.Reads.{read_at, next_at}
-use Rattle.station.specs.Recalls.{commands_from, commands_of, done_all, done_one, then_done}
+use Rattle.station.specs.Recalls.{commands_from, done_all, done_one, then_done}
 use Rattle.station.specs.declared.blame.Blame.{Blame}
 
 pub record Left (n : ℕ) (form : List ℕ) (at : ℕ) (l : LabelSeen) (o : Result LabelSeen Blame) : Type 0 where
   pub turns : ℕ
   pub enough : length form - at ≤ turns
   pub gives : done_all n l (commands_from turns form at) ≡ o
-
-pub begun : (n : ℕ) (form : List ℕ) (l : LabelSeen) → Left n form 0 l (done_all n l (commands_of form))
-begun n form l = record { turns = length form; enough = omega arith; gives = refl }
 
 turn_of : (n : ℕ) (form : List ℕ) (at : ℕ) (l : LabelSeen) (turns : ℕ) → at < length form
     → done_all n l (commands_from (suc turns) form at) ≡ then_done (done_one n l at (read_at form at)) (λ m. done_all n m (commands_from turns form (next_at form at)))

@@ -5,15 +5,14 @@ use Rattle.texts.specs.declared.rule.CountingRule.{Ghosts as RuleGhosts}
 use Rattle.label.specs.Labels.{seen_label}
 use Rattle.station.specs.Drafts.{drafts}
 use Rattle.station.specs.Views.{Doing, idle, saving, owing, View}
-use Rattle.station.specs.declared.draft.Draft.{Draft}
 use Rattle.station.specs.declared.mode.Mode.{Mode}
 use Rattle.station.specs.declared.mode.Mode.TheVariants.{Idle, Saving, Owing}
 use Rattle.station.specs.declared.state.Station.{Station}
 
-abbrev pub doing_of : Mode → Draft → Doing
-doing_of Idle d = idle
-doing_of (Saving n) d = saving n (drafts d)
-doing_of (Owing i) d = owing i.left i.size
+abbrev pub doing_of : Mode → Doing
+doing_of Idle = idle
+doing_of (Saving d) = saving d.number (drafts d)
+doing_of (Owing i) = owing i.left i.size
 
 abbrev pub seen : {S P R Q : Type 0} → StoreGhosts S → PrinterGhosts P → RuleGhosts R → RuleGhosts Q → Station S P R Q → View
 seen store printer first second s =
@@ -23,6 +22,6 @@ seen store printer first second s =
       first = first.wheels s.first;
       second = second.wheels s.second;
       label = seen_label s.label;
-      doing = doing_of s.mode s.draft;
+      doing = doing_of s.mode;
       ordered = s.ordered;
     }

@@ -9,7 +9,7 @@ ghost use Rattle.station.specs.Views.{owed_by};
 
 use crate::blame::{At, Blame};
 use crate::mode::Mode;
-use crate::request::{Asked, asked_of};
+use crate::request::Asked;
 use crate::state::Station;
 use crate::status::tell;
 use crate::steps::refused;
@@ -24,14 +24,8 @@ impl<S: FormStore, P: Printer, R1: CountingRule, R2: CountingRule> Station<S, P,
     fn act(&mut self, command: &Command<'_>, at: usize) -> Result<(), Blame>
         ensures { Came result (when_label (seen S.FormStore P.Printer R1.CountingRule R2.CountingRule self.old) (action_of (plain_of command.now)) at) (seen S.FormStore P.Printer R1.CountingRule R2.CountingRule self.old) (seen S.FormStore P.Printer R1.CountingRule R2.CountingRule self.new) }
     {
-        match self.label.act(command) {
-            Ok(()) => Ok(()),
-            Err(why) => Err(Blame::from(At {
-                form: 0,
-                place: at,
-                why,
-            })),
-        }
+        self.label.act(command).map_err(|why| At::in_job(at, why))?;
+        Ok(())
     }
 
     // The labels that are owed.
@@ -59,11 +53,9 @@ impl<S: FormStore, P: Printer, R1: CountingRule, R2: CountingRule> Station<S, P,
         ensures answer { answer.new ≡ answer_by (request_of (plain_of command.now)) (seen S.FormStore P.Printer R1.CountingRule R2.CountingRule self.old) answer.old }
         ensures work { work.new ≡ work_in (seen S.FormStore P.Printer R1.CountingRule R2.CountingRule self.old).doing (request_of (plain_of command.now)) (S.FormStore.forms self.old.store) work.old }
     {
-        match (self.mode, asked_of(command)) {
+        match (&mut self.mode, Asked::from(command)) {
             (_, Asked::TellStatus) => {
-                let owed = self.owed();
-                let left = self.printer.left();
-                tell(owed, left, answer);
+                tell(self.owed(), self.printer.left(), answer);
                 Ok(())
             }
             (_, Asked::Reset) => {
@@ -71,8 +63,14 @@ impl<S: FormStore, P: Printer, R1: CountingRule, R2: CountingRule> Station<S, P,
                 Ok(())
             }
             (Mode::Owing(_), _) => refused(Refusal::LabelsOwed, at),
-            (Mode::Saving(form), Asked::OnLabel) => self.save(form, whole, at),
-            (Mode::Saving(form), Asked::EndSaving) => self.end_saving(form, at),
+            (Mode::Saving(draft), Asked::OnLabel) => draft.save(whole, at),
+            (Mode::Saving(draft), Asked::EndSaving) => {
+                self.store
+                    .put(draft.number, draft.commands.as_slice())
+                    .map_err(|why| At::in_job(at, why))?;
+                self.mode = Mode::Idle;
+                Ok(())
+            }
             (Mode::Saving(_), _) => refused(Refusal::NotWhileSaving, at),
             (Mode::Idle, Asked::OnLabel) => self.act(command, at),
             (Mode::Idle, Asked::Issue(labels)) => self.order(labels, at),
@@ -83,7 +81,7 @@ impl<S: FormStore, P: Printer, R1: CountingRule, R2: CountingRule> Station<S, P,
             (Mode::Idle, Asked::EndSaving) => refused(Refusal::NotSaving, at),
             (Mode::Idle, Asked::Recall(form)) => self.recall(form, at, work),
             (Mode::Idle, Asked::EmptyStore) => {
-                self.empty_store();
+                self.store.empty();
                 Ok(())
             }
         }

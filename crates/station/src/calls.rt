@@ -7,7 +7,6 @@ ghost use Rattle.picture.specs.Picture.{shown, too_short};
 ghost use Rattle.station.specs.Steps.{Reloaded, Commanded, commanded, answer_after, work_after, fault_at};
 ghost use Rattle.station.specs.Views.{made};
 
-use crate::draft::Draft;
 use crate::mode::Mode;
 use crate::printing::unplaced;
 use crate::state::Station;
@@ -35,7 +34,6 @@ impl<S: FormStore, P: Printer, R1: CountingRule, R2: CountingRule> Station<S, P,
             second,
             label: Label::new(),
             mode: Mode::Idle,
-            draft: Draft::empty(),
             ordered: 0,
         }
     }
@@ -72,15 +70,14 @@ impl<S: FormStore, P: Printer, R1: CountingRule, R2: CountingRule> Station<S, P,
         let (reading, next) = read(job, at);
         let command = reading?;
         let whole = first(rest_at(job, at), next.saturating_sub(at));
-        match self.answer(&command, whole, at, answer, work) {
-            Ok(()) => Ok(next),
-            Err(blame) => Err(Fault {
+        self.answer(&command, whole, at, answer, work)
+            .map_err(|blame| Fault {
                 refusal: blame.refusal,
                 form: blame.form,
                 place: blame.place,
                 next,
-            }),
-        }
+            })?;
+        Ok(next)
     }
 
     // Fills the front of `dots` with the picture of the label; nothing of the station changes.
@@ -88,9 +85,6 @@ impl<S: FormStore, P: Printer, R1: CountingRule, R2: CountingRule> Station<S, P,
         ensures answer { result ≡ (if too_short dots.old then Err (fault_at ShortBuffer 0 0 0) else Ok tt) }
         ensures bytes { dots.new ≡ shown (label_picture (seen S.FormStore P.Printer R1.CountingRule R2.CountingRule self.now).label) dots.old }
     {
-        match self.label.draw(dots) {
-            Ok(()) => Ok(()),
-            Err(refusal) => Err(unplaced(refusal)),
-        }
+        self.label.draw(dots).map_err(unplaced)
     }
 }

@@ -4,7 +4,6 @@
 mod answering;
 mod blame;
 pub mod calls;
-mod draft;
 mod mode;
 mod printing;
 mod recall;

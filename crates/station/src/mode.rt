@@ -1,6 +1,16 @@
 // What a station is doing: nothing, saving a form, or owing labels of an issue.
 ghost use Rattle.std.specs.Prelude.{◌≤◌};
 
+use fixedvec::FixedVec;
+use limits::sizes::LONGEST_FORM;
+
+// The draft of a form that is being saved: whole commands, one behind the other.
+#[derive(Clone, Copy)]
+pub struct Draft {
+    pub(crate) number: u8,
+    pub(crate) commands: FixedVec<u8, LONGEST_FORM>,
+}
+
 // The labels of an issue: how many are still owed, of how many.
 #[derive(Clone, Copy)]
 pub struct Issue {
@@ -13,7 +23,6 @@ pub struct Issue {
 #[derive(Clone, Copy)]
 pub enum Mode {
     Idle,
-    // Saving a form under this number.
-    Saving(u8),
+    Saving(Draft),
     Owing(Issue),
 }

@@ -2,7 +2,6 @@
 ghost use Rattle.std.specs.Prelude.{◌≡◌, length};
 ghost use Rattle.station.specs.Seen.{seen, doing_of};
 ghost use Rattle.station.specs.Steps.{Printing, print_fault, print_work, next_line, one_less, fault_at};
-ghost use Rattle.station.specs.declared.draft.Draft.{Draft as DraftSeen};
 
 use crate::calls::WORK_BYTES;
 use crate::mode::{Issue, Mode};
@@ -26,7 +25,7 @@ pub(crate) fn unplaced(refusal: Refusal) -> Fault
 
 // What is owed after one label more.
 fn one_less(issue: Issue) -> Mode
-    ensures { (d : DraftSeen) → doing_of result d ≡ one_less issue.left issue.size }
+    ensures { doing_of result ≡ one_less issue.left issue.size }
 {
     if issue.left <= 1 {
         Mode::Idle
@@ -55,12 +54,13 @@ impl<S: FormStore, P: Printer, R1: CountingRule, R2: CountingRule> Station<S, P,
             return Err(unplaced(Refusal::OutOfStock));
         }
         let number = issue.size - issue.left + 1;
-        let Some(n) = self.label.write_line(number, issue.size, work) else {
-            return Err(unplaced(Refusal::ShortBuffer));
-        };
-        if self.printer.take(&work[0..n]).is_err() {
-            return Err(unplaced(Refusal::OutOfStock));
-        }
+        let n = self
+            .label
+            .write_line(number, issue.size, work)
+            .ok_or(unplaced(Refusal::ShortBuffer))?;
+        self.printer
+            .take(&work[..n])
+            .map_err(|why| unplaced(why.into()))?;
         self.label.turn(&self.first, &self.second);
         self.mode = one_less(issue);
         Ok(n)

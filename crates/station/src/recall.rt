@@ -8,31 +8,31 @@ ghost use Rattle.station.specs.Recalls.{acted_on, done_one, done_all, commands_o
 ghost use Rattle.station.specs.Forming.{Done, One, All};
 
 use crate::blame::{At, Blame};
-use crate::request::{Asked, asked_of};
+use crate::request::Asked;
 use faults::Refusal;
 use job::read::read;
 use jobgroups::command::Command;
 use label::label::Label;
 
+// Kept so: the label and the form's number in one struct would be a borrowed label, whose name each contract would have to carry on.
+
 // A command of a form, which has to be a label command.
 fn do_command(label: &mut Label, number: u8, command: &Command<'_>, at: usize) -> Result<(), Blame>
     ensures { Done (acted_on number (seen_label label.old) at (action_of (plain_of command.now))) result (seen_label label.old) (seen_label label.new) }
 {
-    let Asked::OnLabel = asked_of(command) else {
+    let Asked::OnLabel = Asked::from(command) else {
         return Err(Blame {
             refusal: Refusal::NotWhileSaving,
             form: number,
             place: at,
         });
     };
-    match label.act(command) {
-        Ok(()) => Ok(()),
-        Err(why) => Err(Blame::from(At {
-            form: number,
-            place: at,
-            why,
-        })),
-    }
+    label.act(command).map_err(|why| At {
+        form: number,
+        place: at,
+        why,
+    })?;
+    Ok(())
 }
 
 // The command at a place of a form; tells the place behind it.
@@ -41,17 +41,13 @@ fn do_one(label: &mut Label, number: u8, form: &[u8], at: usize) -> Result<usize
     ensures on { IfOk result (λ next. at < next) }
 {
     let (reading, next) = read(form, at);
-    match reading {
-        Ok(command) => {
-            do_command(label, number, &command, at)?;
-            Ok(next)
-        }
-        Err(why) => Err(Blame::from(At {
-            form: number,
-            place: at,
-            why,
-        })),
-    }
+    let command = reading.map_err(|e| At {
+        form: number,
+        place: e.place,
+        why: e,
+    })?;
+    do_command(label, number, &command, at)?;
+    Ok(next)
 }
 
 // All commands of a form in turn. Refused, the label may have taken some of them: lend a copy.

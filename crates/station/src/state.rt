@@ -1,5 +1,4 @@
 // A station: one label, with the store, the printer and the two counting rules that it owns alone.
-use crate::draft::Draft;
 use crate::mode::Mode;
 use label::label::Label;
 
@@ -11,7 +10,6 @@ pub struct Station<S, P, R1, R2> {
     pub(crate) second: R2,
     pub(crate) label: Label,
     pub(crate) mode: Mode,
-    pub(crate) draft: Draft,
     // Labels ordered since the station was made.
     pub(crate) ordered: u64,
 }

@@ -3,6 +3,8 @@ ghost use Rattle.std.specs.Prelude.{◌≡◌, ◌≤◌, ◌++◌, length, drop
 ghost use Rattle.station.specs.Status.{answer_for, status_characters};
 ghost use Rattle.station.specs.Steps.{answer_bytes};
 
+use tagline::digits::digits;
+
 // The bytes of a status answer.
 pub const ANSWER_BYTES: usize = 13;
 
@@ -25,21 +27,7 @@ pub(crate) fn tell(owed: u16, left: u64, answer: &mut [u8])
     ensures { answer.new ≡ answer_for owed left ++ drop answer_bytes answer.old }
 {
     let [high, low] = characters(owed, left);
-    let told = [
-        1,
-        2,
-        high,
-        low,
-        b'1',
-        b'0' + (owed / 1000 % 10) as u8,
-        b'0' + (owed / 100 % 10) as u8,
-        b'0' + (owed / 10 % 10) as u8,
-        b'0' + (owed % 10) as u8,
-        3,
-        4,
-        b'\r',
-        b'\n',
-    ];
-    let front = &mut answer[0..ANSWER_BYTES];
-    front.copy_from_slice(&told);
+    let [d3, d2, d1, d0] = digits::<4>(usize::from(owed));
+    let told = [1, 2, high, low, b'1', d3, d2, d1, d0, 3, 4, b'\r', b'\n'];
+    answer[..ANSWER_BYTES].copy_from_slice(&told);
 }

@@ -1,11 +1,11 @@
 -- What holds of the meaning of every form store.
-use Rattle.std.specs.Prelude.{◌≡◌, ℕ, zero, suc, ◌+◌, ◌-◌, ◌*◌, ◌≤◌, Bool, true, false, cond, List, Some, None, Option, ◌==◌, nat_le, refl}
-use Rattle.std.proofs.Common.{sym, ap, ◌∙◌, mul-suc, mul-zero, not-suc-le-zero, add-one, arith}
+use Rattle.std.specs.Prelude.{◌≡◌, ℕ, zero, suc, ◌+◌, ◌-◌, ◌*◌, ◌≤◌, false, cond, List, Some, None, Option, ◌==◌, unwrap_or, refl}
+use Rattle.std.proofs.Common.{sym, ap, ◌∙◌, mul-suc, mul-zero, not-suc-le-zero, arith}
 use Rattle.std.proofs.Math.Path.{fun_ext}
 use Rattle.std.proofs.Math.Dec.{eqb-zero-suc, eqb-suc-suc}
 use Rattle.std.proofs.lemmas.Bool.Decides.{nat_tests}
 use Rattle.limits.specs.Bytes.{between}
-use Rattle.stores.specs.Forms.{Forms, numbered, place_of, size_of, others_to, from_one, stored, Lawful}
+use Rattle.stores.specs.Forms.{Forms, size_of, length_of, others_to, from_one, stored, Lawful}
 
 -- the other forms leave a place of b bytes free among k places
 pub others_below : (at : ℕ → Option (List ℕ)) (b n k : ℕ) → ((j : ℕ) → size_of (at j) ≤ b) → others_to at n k + cond (between 1 k n) b 0 ≤ b * k
@@ -17,24 +17,24 @@ others_below at b n (suc k) h =
     let m = mul-suc b k in
     rw m (grind (arith, nat_tests))
 
-pub from_one_at : (g : ℕ → Option (List ℕ)) (n : ℕ) → 1 ≤ n → from_one g n ≡ g (n - 1)
+-- a number is one more than its place
+pub from_one_at : (g : ℕ → Option (List ℕ)) (n p : ℕ) → n ≡ p + 1 → from_one g n ≡ g p
 unfolding from_one
-from_one_at g zero h = absurd (not-suc-le-zero h)
-from_one_at g (suc k) h = ap g (omega arith)
+from_one_at g n p e = let z : n ≡ suc p = omega arith in ap (from_one g) z
 
 -- one form more, counted from 0, is one form more
-pub from_one_stored : (g h : ℕ → Option (List ℕ)) (n : ℕ) (x : Option (List ℕ)) → 1 ≤ n → ((k : ℕ) → h k ≡ cond (k == n - 1) x (g k)) → (k : ℕ) → from_one h k ≡ cond (k == n) x (from_one g k)
+pub from_one_stored : (g h : ℕ → Option (List ℕ)) (p : ℕ) (x : Option (List ℕ)) → ((k : ℕ) → h k ≡ cond (k == p) x (g k)) → (k : ℕ) → from_one h k ≡ cond (k == suc p) x (from_one g k)
 unfolding from_one
-from_one_stored g h zero x p e k = absurd (not-suc-le-zero p)
-from_one_stored g h (suc m) x p e zero = rw (eqb-zero-suc m)
-from_one_stored g h (suc m) x p e (suc k) =
-    let z : suc m - 1 ≡ m = omega arith in
-    e k ∙ ap (λ (i : ℕ). cond (k == i) x (g k)) z ∙ rw (eqb-suc-suc k m)
+from_one_stored g h p x e zero = rw (eqb-zero-suc p)
+from_one_stored g h p x e (suc k) = e k ∙ rw (eqb-suc-suc k p)
 
 -- the same of whole meanings
-pub stored_is : (g h : ℕ → Option (List ℕ)) (n : ℕ) (x : List ℕ) (l t : ℕ) → 1 ≤ n → ((k : ℕ) → h k ≡ cond (k == n - 1) (Some x) (g k))
+pub stored_is : (g h : ℕ → Option (List ℕ)) (n p : ℕ) (x : List ℕ) (l t : ℕ) → n ≡ p + 1 → ((k : ℕ) → h k ≡ cond (k == p) (Some x) (g k))
     → ◌≡◌ {A = Forms} (record { at = from_one h; longest = l; total = t }) (stored (record { at = from_one g; longest = l; total = t }) n x)
-stored_is g h n x l t p e = ap (λ (f : ℕ → Option (List ℕ)). record { at = f; longest = l; total = t }) (fun_ext (from_one_stored g h n (Some x) p e))
+stored_is g h n p x l t e same =
+    let z : suc p ≡ n = omega arith in
+    ap (λ (f : ℕ → Option (List ℕ)). record { at = f; longest = l; total = t }) (fun_ext (from_one_stored g h p (Some x) same))
+    ∙ ap (λ (m : ℕ). stored (record { at = from_one g; longest = l; total = t }) m x) z
 
 pub from_one_none : (g : ℕ → Option (List ℕ)) → ((k : ℕ) → g k ≡ None) → (k : ℕ) → from_one g k ≡ None
 unfolding from_one
@@ -51,36 +51,20 @@ unfolding from_one
 from_one_outside g m e zero h = refl
 from_one_outside g m e (suc k) h = e k (grind (arith, nat_tests))
 
--- what the place of a number tells
-pub place_some : (n p : ℕ) → Some p ≡ place_of n → (1 ≤ n) × (n ≤ 20) × (p ≡ n - 1)
-place_some n p e = go (nat_le 1 n) (nat_le n 20) refl refl e
-  where
-    never : {A : Type 0} → Some p ≡ None → A
-    never e = absurd (let z : ◌≡◌ {A = ℕ} 0 1 = cc in let y : ⊥ = omega arith in y)
-
-    go : (a b : Bool) → nat_le 1 n ≡ a → nat_le n 20 ≡ b → Some p ≡ cond (cond a b false) (Some (n - 1)) None → (1 ≤ n) × (n ≤ 20) × (p ≡ n - 1)
-    go true true ea eb e = let s : p ≡ n - 1 = cc in (grind (arith, nat_tests), grind (arith, nat_tests), s)
-    go true false ea eb e = never e
-    go false b ea eb e = never e
-
-pub place_none : (n : ℕ) → None ≡ place_of n → numbered n ≡ false
-place_none n e = go (numbered n) refl e
-  where
-    go : (a : Bool) → numbered n ≡ a → None ≡ cond a (Some (n - 1)) None → numbered n ≡ false
-    go true ea e = absurd (let z : ◌≡◌ {A = ℕ} 0 1 = cc in let y : ⊥ = omega arith in y)
-    go false ea e = ea
-
 pub others_none : (at : ℕ → Option (List ℕ)) (n : ℕ) → others_to at n 0 ≡ 0
 unfolding others_to
 others_none at n = refl
 
-pub others_more : (at : ℕ → Option (List ℕ)) (n k : ℕ) → others_to at n (k + 1) ≡ others_to at n k + cond (k + 1 == n) 0 (size_of (at (k + 1)))
+pub others_next : (at : ℕ → Option (List ℕ)) (n k : ℕ) → 1 ≤ k → others_to at n k ≡ others_to at n (k - 1) + cond (k == n) 0 (size_of (at k))
 unfolding others_to
-others_more at n k = rw add-one refl
+others_next at n zero h = absurd (not-suc-le-zero h)
+others_next at n (suc k) h = let z : suc k - 1 ≡ k = omega arith in ap (λ (i : ℕ). others_to at n i + cond (suc k == n) 0 (size_of (at (suc k)))) (sym z)
+
+-- the bytes of a form, from what a store tells of its size
+pub size_told : (long : ℕ) (told : Option ℕ) (o : Option (List ℕ)) → long ≡ unwrap_or told 0 → told ≡ length_of o → long ≡ size_of o
+size_told long told (Some x) e h = e ∙ ap (λ (t : Option ℕ). unwrap_or t 0) h
+size_told long told None e h = e ∙ ap (λ (t : Option ℕ). unwrap_or t 0) h
 
 -- the other forms of k numbers have at most 1,024 bytes each
 pub others_least : (f : Forms) (n k : ℕ) → Lawful f → others_to f.at n k ≤ 1024 * k
 others_least f n k w = let h = others_below f.at 1024 n k w.short in omega arith
-
-pub place_is : (n : ℕ) → numbered n ≡ true → Some (n - 1) ≡ place_of n
-place_is n h = ap (λ (t : Bool). cond t (Some (n - 1)) None) (sym h)

@@ -1,7 +1,6 @@
 -- What a form store means, and what each call does to that meaning.
 --   Forms           under each number a form or nothing, the longest form that it takes, and the total of all forms
 --   numbered n      n is a number that a form can have
---   place_of n      where the form of a number stands among all, counted from 0
 --   size_of o       the bytes of a form; none where there is nothing
 --   others f n      the bytes of all forms but the one under n
 --   Lawful f        what every store keeps. The forms may be any bytes, and may exceed the total already
@@ -12,11 +11,11 @@
 --   vacant l t      no form at all, with a longest form of l bytes and a total of t
 --   lowered m f     the same forms under a total of at most m
 --   from_one g      forms that are counted from 1, where g counts them from 0
-use Rattle.std.specs.Prelude.{◌≡◌, ℕ, zero, suc, ◌+◌, ◌-◌, ◌≤◌, Bool, false, cond, List, ◌++◌, length, drop, Some, None, Ok, Err, Option, Result, ◌==◌, nat_le}
+use Rattle.std.specs.Prelude.{◌≡◌, ℕ, zero, suc, ◌+◌, ◌≤◌, Bool, false, cond, List, ◌++◌, length, drop, Some, None, Ok, Err, Option, Result, ◌==◌, nat_le}
 use Rattle.limits.specs.Bytes.{between}
 use Rattle.limits.specs.Limits.{last_form, longest_form, largest_total}
-use Rattle.stores.specs.declared.answers.Loaded.{Loaded}
-use Rattle.stores.specs.declared.answers.Loaded.TheVariants.{Nothing, NoRoom, Filled}
+use Rattle.stores.specs.declared.answers.LoadFault.{LoadFault}
+use Rattle.stores.specs.declared.answers.LoadFault.TheVariants.{NoForm, NoRoom}
 use Rattle.stores.specs.declared.answers.StoreFault.{StoreFault}
 use Rattle.stores.specs.declared.answers.StoreFault.TheVariants.{TooLong, Full}
 
@@ -27,9 +26,6 @@ pub record Forms : Type 0 where
 
 abbrev pub numbered : ℕ → Bool
 numbered = between 1 last_form
-
-abbrev pub place_of : ℕ → Option ℕ
-place_of n = cond (numbered n) (Some (n - 1)) None
 
 abbrev pub size_of : Option (List ℕ) → ℕ
 size_of (Some x) = length x
@@ -53,9 +49,9 @@ abbrev pub length_of : Option (List ℕ) → Option ℕ
 length_of (Some x) = Some (length x)
 length_of None = None
 
-abbrev pub loaded_of : Option (List ℕ) → ℕ → Loaded
-loaded_of (Some x) room = cond (nat_le (length x) room) (Filled (length x)) NoRoom
-loaded_of None room = Nothing
+abbrev pub loaded_of : Option (List ℕ) → ℕ → Result ℕ LoadFault
+loaded_of (Some x) room = cond (nat_le (length x) room) (Ok (length x)) (Err NoRoom)
+loaded_of None room = Err NoForm
 
 abbrev pub filled_with : Option (List ℕ) → List ℕ → List ℕ
 filled_with (Some x) buffer = cond (nat_le (length x) (length buffer)) (x ++ drop (length x) buffer) buffer

@@ -1,6 +1,6 @@
 pub mod Forms
-pub mod Kept
 pub mod Packed
+pub mod PackedStores
 pub mod Slots
 pub mod Refusals
 pub mod SlotLaws

@@ -6,12 +6,11 @@
 --   packed_at ls b k  the form of the k-th entry in the bytes b, or nothing
 --   packed_forms      the meaning of a packed store
 --   spliced           the bytes once a form stands between start and end, with what came behind moved up to it
-use Rattle.std.specs.Prelude.{ℕ, zero, suc, ◌+◌, ◌-◌, List, [], ◌∷◌, ◌++◌, length, take, drop, Some, None, Option, slice_index_or, slice_range}
+use Rattle.std.specs.Prelude.{ℕ, zero, suc, ◌+◌, ◌-◌, List, [], ◌∷◌, ◌++◌, length, take, drop, Some, None, Option, slice_index_or, slice_range, unwrap_or}
 use Rattle.stores.specs.Forms.{Forms, from_one}
 
 abbrev pub size_in : Option ℕ → ℕ
-size_in (Some long) = long
-size_in None = 0
+size_in l = unwrap_or l 0
 
 abbrev pub size_at : List (Option ℕ) → ℕ → ℕ
 size_at ls k = size_in (slice_index_or ls k None)

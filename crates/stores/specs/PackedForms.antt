@@ -1,22 +1,20 @@
 -- What holds of the meaning of a packed store.
-use Rattle.std.specs.Prelude.{◌≡◌, ℕ, zero, suc, ◌+◌, ◌-◌, ◌<◌, ◌≤◌, Bool, true, false, cond, List, ◌++◌, length, take, drop, replicate, Some, None, Option, ◌==◌, slice_index_or, slice_range, slice_set, refl}
+use Rattle.std.specs.Prelude.{◌≡◌, ℕ, zero, suc, ◌+◌, ◌-◌, ◌<◌, ◌≤◌, Bool, true, false, List, ◌++◌, length, take, drop, replicate, Some, None, Option, ◌==◌, slice_index_or, slice_range, slice_set, refl}
 use Rattle.std.proofs.Common.{sym, ap, ◌∙◌, arith, length-take, length-drop}
 use Rattle.std.proofs.Math.Path.{fun_ext}
 use Rattle.std.proofs.lemmas.List.{take_at, drop_at, drop-drop, get_or-set_same, get_or-set_other}
 use Rattle.std.proofs.lemmas.Bool.Decides.{nat_tests}
-use Rattle.stores.specs.Forms.{Lawful, place_of, others, from_one, stored, vacant}
+use Rattle.stores.specs.Forms.{Lawful, numbered, others, from_one, stored, vacant}
 use Rattle.stores.specs.Packed.{size_in, size_at, used, before, cut, packed_at, packed_forms, spliced}
-use Rattle.stores.specs.FormLaws.{from_one_at, from_one_none, from_one_sizes, from_one_outside, stored_is, place_some, place_none}
+use Rattle.stores.specs.FormLaws.{from_one_at, from_one_none, from_one_sizes, from_one_outside, stored_is}
 use Rattle.stores.specs.PackedLaws.{before_all, used_set, packed_at_lem, packed_past, packed_size, packed_none, packed_others, packed_put}
 
 -- the form under a number is the one of its entry
-pub packed_here : (ls : List (Option ℕ)) (b : List ℕ) (n p : ℕ) → Some p ≡ place_of n → from_one (packed_at ls b) n ≡ cut (slice_index_or ls p None) (drop (before ls p) b)
-packed_here ls b n p e =
-    let k = place_some n p e in
-    from_one_at (packed_at ls b) n k.0 ∙ ap (packed_at ls b) (sym k.2) ∙ packed_at_lem ls b p
+pub packed_here : (ls : List (Option ℕ)) (b : List ℕ) (n p : ℕ) → n ≡ p + 1 → from_one (packed_at ls b) n ≡ cut (slice_index_or ls p None) (drop (before ls p) b)
+packed_here ls b n p e = from_one_at (packed_at ls b) n p e ∙ packed_at_lem ls b p
 
-pub packed_nowhere : (ls : List (Option ℕ)) (b : List ℕ) (n : ℕ) → length ls ≡ 20 → None ≡ place_of n → from_one (packed_at ls b) n ≡ None
-packed_nowhere ls b n h e = from_one_outside (packed_at ls b) 20 (λ k le. packed_past ls b k (omega arith)) n (place_none n e)
+pub packed_nowhere : (ls : List (Option ℕ)) (b : List ℕ) (n : ℕ) → length ls ≡ 20 → numbered n ≡ false → from_one (packed_at ls b) n ≡ None
+packed_nowhere ls b n h e = from_one_outside (packed_at ls b) 20 (λ k le. packed_past ls b k (omega arith)) n e
 
 pub packed_lawful : (ls : List (Option ℕ)) (b : List ℕ) → length ls ≡ 20 → used ls ≤ length b → ((k : ℕ) → size_at ls k ≤ 1024) → Lawful (packed_forms ls b)
 packed_lawful ls b h u short = record {
@@ -30,20 +28,13 @@ pub packed_vacant : (b : List ℕ) → packed_forms (replicate 20 None) b ≡ va
 packed_vacant b = ap (λ (f : ℕ → Option (List ℕ)). record { at = f; longest = 1024; total = 8192 }) (fun_ext (from_one_none (packed_at (replicate 20 None) b) (packed_none 20 b)))
 
 -- the other forms have all bytes that are used, but for those of the form
-pub packed_rest : (ls : List (Option ℕ)) (b : List ℕ) (n p : ℕ) → length ls ≡ 20 → used ls ≤ length b → Some p ≡ place_of n → others (packed_forms ls b) n + size_at ls p ≡ used ls
-packed_rest ls b n p h u e = go n k.0 k.1 k.2
-  where
-    k : (1 ≤ n) × (n ≤ 20) × (p ≡ n - 1)
-    k = place_some n p e
-
-    go : (n : ℕ) → 1 ≤ n → n ≤ 20 → p ≡ n - 1 → others (packed_forms ls b) n + size_at ls p ≡ used ls
-    go zero low high same = absurd (let z : ⊥ = omega arith in z)
-    go (suc m) low high same =
-        let is : p ≡ m = omega arith in
-        let at = ap (size_at ls) is in
-        let sum = packed_others ls b u m 20 in
-        let all = before_all ls 20 (omega arith) in
-        grind (arith, nat_tests)
+pub packed_rest : (ls : List (Option ℕ)) (b : List ℕ) (n p : ℕ) → length ls ≡ 20 → used ls ≤ length b → n ≡ p + 1 → p < 20 → others (packed_forms ls b) n + size_at ls p ≡ used ls
+packed_rest ls b n p h u e low =
+    let m : suc p ≡ n = omega arith in
+    let sum = packed_others ls b u p 20 in
+    let all = before_all ls 20 (omega arith) in
+    let same = ap (others (packed_forms ls b)) m in
+    grind (arith, nat_tests)
 
 -- what lies in spliced bytes
 spliced_front : (b : List ℕ) (start end all : ℕ) (x : List ℕ) → start ≤ length b → take start (spliced b start end all x) ≡ take start b
@@ -58,16 +49,12 @@ spliced_moved b start end all x h m l =
     ap (take (all - end)) (sym (drop-drop (length x) start (spliced b start end all x)) ∙ ap (drop (length x)) (spliced_behind b start end all x h) ∙ drop_at x _ (length x) refl)
     ∙ take_at (slice_range b end all) _ (all - end) (simp (length-take, length-drop) (omega arith))
 
-pub packed_stored : (ls : List (Option ℕ)) (b b' : List ℕ) (n p start end all : ℕ) (x : List ℕ) → length ls ≡ 20 → used ls ≤ length b → Some p ≡ place_of n
+pub packed_stored : (ls : List (Option ℕ)) (b b' : List ℕ) (n p start end all : ℕ) (x : List ℕ) → length ls ≡ 20 → used ls ≤ length b → n ≡ p + 1 → p < 20
     → start ≡ before ls p → end ≡ start + size_at ls p → all ≡ used ls → end ≤ all → b' ≡ spliced b start end all x
     → packed_forms (slice_set ls p (Some (length x))) b' ≡ stored (packed_forms ls b) n x
-packed_stored ls b b' n p start end all x h u e hs he ha hw hb =
-    stored_is (packed_at ls b) (packed_at (slice_set ls p (Some (length x))) b') n x 1024 8192 k.0
-    (λ j. packed_put ls p (all - end) x b b' (omega (arith, k)) (omega arith) e₁ e₂ e₃ j ∙ ap (λ (i : ℕ). cond (j == i) (Some x) (packed_at ls b j)) k.2)
+packed_stored ls b b' n p start end all x h u e low hs he ha hw hb =
+    stored_is (packed_at ls b) (packed_at (slice_set ls p (Some (length x))) b') n p x 1024 8192 e (packed_put ls p (all - end) x b b' (omega arith) (omega arith) e₁ e₂ e₃)
   where
-    k : (1 ≤ n) × (n ≤ 20) × (p ≡ n - 1)
-    k = place_some n p e
-
     e₁ : take (before ls p) b' ≡ take (before ls p) b
     e₁ = ap (λ (s : ℕ). take s b') (sym hs) ∙ ap (take start) hb ∙ spliced_front b start end all x (omega arith) ∙ ap (λ (s : ℕ). take s b) hs
 
@@ -79,8 +66,8 @@ packed_stored ls b b' n p start end all x h u e hs he ha hw hb =
         ∙ ap (λ (s : ℕ). take (all - end) (drop s b)) (he ∙ ap (λ (s : ℕ). s + size_at ls p) hs)
 
 -- what a store keeps of itself when a form is put
-pub used_put : (ls : List (Option ℕ)) (p start end long : ℕ) → p < length ls → end ≡ start + size_at ls p → end ≤ used ls → start + long + (used ls - end) ≤ 8192 → used (slice_set ls p (Some long)) ≤ 8192
-used_put ls p start end long h e w r = let s = used_set ls p (Some long) h in omega arith
+pub used_put : (ls : List (Option ℕ)) (p long : ℕ) → p < length ls → used ls + long ≤ 8192 + size_at ls p → used (slice_set ls p (Some long)) ≤ 8192
+used_put ls p long h room = omega (arith, used_set ls p (Some long) h)
 
 pub sizes_set : (ls : List (Option ℕ)) (p long : ℕ) → p < length ls → ((k : ℕ) → size_at ls k ≤ 1024) → long ≤ 1024 → (k : ℕ) → size_at (slice_set ls p (Some long)) k ≤ 1024
 sizes_set ls p long h short l k = go (k == p) refl
@@ -107,12 +94,12 @@ sizes_none (suc m) zero = omega arith
 sizes_none (suc m) (suc k) = sizes_none m k
 
 -- the bytes of a form lie between its start and its end
-pub packed_part : (ls : List (Option ℕ)) (b : List ℕ) (n p long start end : ℕ) → Some p ≡ place_of n → slice_index_or ls p None ≡ Some long → start ≡ before ls p → end ≡ start + size_at ls p
+pub packed_part : (ls : List (Option ℕ)) (b : List ℕ) (n p long start end : ℕ) → n ≡ p + 1 → slice_index_or ls p None ≡ Some long → start ≡ before ls p → end ≡ start + size_at ls p
     → from_one (packed_at ls b) n ≡ Some (slice_range b start end)
 packed_part ls b n p long start end e o hs he =
     let is : size_at ls p ≡ long = ap size_in o in
     let size : long ≡ end - start = omega arith in
     packed_here ls b n p e ∙ ap (λ (l : Option ℕ). cut l (drop (before ls p) b)) o ∙ ap (λ (k : ℕ). Some (take k (drop (before ls p) b))) size ∙ ap (λ (s : ℕ). Some (take (end - start) (drop s b))) (sym hs)
 
-pub packed_gone : (ls : List (Option ℕ)) (b : List ℕ) (n p : ℕ) → Some p ≡ place_of n → slice_index_or ls p None ≡ None → from_one (packed_at ls b) n ≡ None
+pub packed_gone : (ls : List (Option ℕ)) (b : List ℕ) (n p : ℕ) → n ≡ p + 1 → slice_index_or ls p None ≡ None → from_one (packed_at ls b) n ≡ None
 packed_gone ls b n p e o = packed_here ls b n p e ∙ ap (λ (l : Option ℕ). cut l (drop (before ls p) b)) o

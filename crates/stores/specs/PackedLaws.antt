@@ -2,7 +2,9 @@
 use Rattle.std.specs.Prelude.{◌≡◌, ℕ, zero, suc, ◌+◌, ◌<◌, ◌≤◌, Bool, true, false, cond, List, [], ◌∷◌, length, take, drop, replicate, Some, None, Option, ◌==◌, nat_le, slice_index_or, slice_set, refl}
 use Rattle.std.proofs.Common.{sym, ap, ◌∙◌, le_of_suc-le-suc, not-suc-le-zero, zero-add, add_assoc, arith, length-take, length-drop}
 use Rattle.std.proofs.Math.Dec.{eqb-zero-suc, eqb-suc-zero, eqb-suc-suc}
+use Rattle.std.specs.List.{sum_by}
 use Rattle.std.proofs.lemmas.List.{take-take, drop-take, drop-drop}
+use Rattle.std.proofs.lemmas.List.Sums.{sum_by-cons, sum_by-set}
 use Rattle.std.proofs.lemmas.Bool.Decides.{nat_tests}
 use Rattle.stores.specs.Forms.{size_of, others_to, from_one}
 use Rattle.stores.specs.Packed.{size_in, size_at, used, before, cut, packed_at}
@@ -28,11 +30,23 @@ before_most ls zero = omega arith
 before_most [] (suc k) = omega arith
 before_most (l ∷ ls) (suc k) = let h = before_most ls k in omega arith
 
-pub used_set : (ls : List (Option ℕ)) (n : ℕ) (o : Option ℕ) → n < length ls → used (slice_set ls n o) + size_at ls n ≡ used ls + size_in o
+-- both as sums of the library
+pub used_sum : (ls : List (Option ℕ)) → used ls ≡ sum_by size_in ls
 unfolding used
-used_set [] n o h = absurd (not-suc-le-zero h)
-used_set (l ∷ ls) zero o h = omega arith
-used_set (l ∷ ls) (suc n) o h = let i = used_set ls n o (le_of_suc-le-suc h) in omega arith
+used_sum [] = refl
+used_sum (l ∷ ls) = ap (λ (s : ℕ). size_in l + s) (used_sum ls) ∙ sym (sum_by-cons size_in l ls)
+
+pub before_used : (ls : List (Option ℕ)) (k : ℕ) → before ls k ≡ used (take k ls)
+unfolding before used
+before_used ls zero = refl
+before_used [] (suc k) = refl
+before_used (l ∷ ls) (suc k) = ap (λ (s : ℕ). size_in l + s) (before_used ls k)
+
+pub used_front : (ls : List (Option ℕ)) (k : ℕ) → used (take k ls) + size_at ls k ≤ used ls
+used_front ls k = let is = before_used ls k in let more = before_more ls k in let most = before_most ls (suc k) in omega arith
+
+pub used_set : (ls : List (Option ℕ)) (n : ℕ) (o : Option ℕ) → n < length ls → used (slice_set ls n o) + size_at ls n ≡ used ls + size_in o
+used_set ls n o h = omega (arith, used_sum (slice_set ls n o), used_sum ls, sum_by-set size_in ls n o None h)
 
 -- equal fronts hold equal forms
 front_cut : (l : Option ℕ) (n : ℕ) (b b' : List ℕ) → size_in l ≤ n → take n b' ≡ take n b → cut l b' ≡ cut l b
@@ -122,7 +136,3 @@ packed_others ls b h m (suc k) =
     go false e rest size more =
         let other : k ≡ m → ⊥ = grind (arith, nat_tests) in
         grind (arith, nat_tests)
-
-pub before_none : (ls : List (Option ℕ)) → before ls 0 ≡ 0
-unfolding before
-before_none ls = refl

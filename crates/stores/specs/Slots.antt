@@ -1,18 +1,16 @@
--- What a slot store holds: a slot of 512 bytes for each number.
---   form_of s        the form in a slot, or nothing
+-- What a slot store holds: room for a form of 512 bytes under each number.
 --   slot_at slots k  the form in a slot of a list, counted from 0
 --   slot_forms       the meaning of a slot store
-use Rattle.std.specs.Prelude.{ℕ, zero, suc, cond, List, [], ◌∷◌, take, Some, None, Option}
+use Rattle.std.specs.Prelude.{ℕ, List, None, Option, option_map, slice_index_or}
+use Rattle.fixedvec.specs.Items.{items}
+use Rattle.fixedvec.specs.declared.FixedVec.{FixedVec}
 use Rattle.stores.specs.Forms.{Forms, from_one}
-use Rattle.stores.specs.declared.slot.Slot.{Slot}
 
-abbrev pub form_of : Slot → Option (List ℕ)
-form_of s = cond s.held (Some (take s.len s.bytes)) None
+abbrev pub Slot : Type 0
+Slot = Option (FixedVec ℕ 512)
 
 unfoldable pub slot_at : List Slot → ℕ → Option (List ℕ)
-slot_at [] k = None
-slot_at (s ∷ ss) zero = form_of s
-slot_at (s ∷ ss) (suc k) = slot_at ss k
+slot_at slots k = option_map items (slice_index_or slots k None)
 
 -- bytes of a slot, and of all twenty
 abbrev pub slot_longest : ℕ

@@ -1,11 +1,10 @@
-// What a form store answers.
+// What a form store refuses.
 
-// What reading a form came to: there is none, it is longer than the buffer, or the buffer begins with it.
+// Why reading a form fills nothing: there is none, or it is longer than the buffer.
 #[derive(Clone, Copy, PartialEq, Eq, Debug)]
-pub enum Loaded {
-    Nothing,
+pub enum LoadFault {
+    NoForm,
     NoRoom,
-    Filled(usize),
 }
 
 // Why a form store refuses.

@@ -1,22 +1,24 @@
 // A layer over any store that keeps a copy of the form read last. It changes no meaning.
 ghost use Rattle.std.specs.Prelude.{◌≡◌, Some};
-ghost use Rattle.stores.specs.Kept.{kept_form};
-ghost use Rattle.stores.specs.declared.cache.witness.Witness.{Witness as Known};
+ghost use Rattle.fixedvec.specs.Items.{items};
+ghost use Rattle.stores.specs.declared.cache.Copied.{Copied as Copy};
 
-use crate::cache::page::Page;
-use crate::cache::witness::Witness;
 use crate::store::FormStore;
+use fixedvec::FixedVec;
+use limits::sizes::LONGEST_FORM;
 
 mod forms;
-mod page;
-mod witness;
 
-// `known` is there while the page's copy is known to be the form below; a put or emptying gives it up.
+#[derive(Clone, Copy)]
+struct Copied {
+    number: u8,
+    form: FixedVec<u8, LONGEST_FORM>,
+}
+
+// The copy is always the form below; a put or emptying gives it up.
 #[derive(Drop)]
 pub struct ReadCache<S: FormStore> {
-    page: Page<S>,
-    known: Option<Witness<S>>,
-    ghost store: { (w : Known S) → known ≡ Some w → w.store ≡ page.below },
-    ghost number: { (w : Known S) → known ≡ Some w → w.number ≡ page.number },
-    ghost form: { (w : Known S) → known ≡ Some w → w.form ≡ kept_form page },
+    below: S,
+    copy: Option<Copied>,
+    ghost kept: { (c : Copy) → copy ≡ Some c → (S.FormStore.forms below).at c.number ≡ Some (items c.form) },
 }

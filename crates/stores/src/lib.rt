@@ -7,6 +7,5 @@ pub mod packed;
 mod parts;
 pub mod quota;
 pub mod refusals;
-mod slot;
 pub mod slots;
 pub mod store;

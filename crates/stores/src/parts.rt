@@ -1,40 +1,62 @@
-// What every kind of store does alike: finding the place of a number, and filling a buffer's front.
-ghost use Rattle.std.specs.Prelude.{◌≡◌, length, Some};
-ghost use Rattle.stores.specs.Forms.{numbered, place_of, loaded_of, filled_with};
+// What every kind of store does alike: telling the numbers that a form can have, and filling a buffer's front.
+ghost use Rattle.std.specs.Prelude.{◌≡◌, ◌-◌, ◌≤◌, cond, false, length, Some, MatchOption, MatchResult, nat_le};
+ghost use Rattle.limits.specs.Limits.{last_form};
+ghost use Rattle.stores.specs.Forms.{numbered, loaded_of, filled_with};
+ghost use Rattle.stores.specs.declared.answers.StoreFault.TheVariants.{TooLong};
 
-use crate::answers::Loaded;
+use crate::answers::{LoadFault, StoreFault};
 use limits::sizes::LAST_FORM;
 
 // How many numbers there are.
 pub const NUMBERS: usize = 20;
 
 // A number that a form can have.
-pub fn is_number(number: u8) -> bool
-    ensures { result ≡ numbered number }
-{
-    number >= 1 && number <= LAST_FORM
+#[derive(Clone, Copy)]
+pub struct Number {
+    value: u8,
+    ghost from: { 1 ≤ value },
+    ghost to: { value ≤ last_form },
 }
 
-// Where the form of a number stands among all, counted from 0; None under a number that no form has.
-pub fn place_of(number: u8) -> Option<usize>
-    ensures { result ≡ place_of number }
+impl Number {
+    // None for a number that no form has.
+    pub fn new(number: u8) -> Option<Number>
+        ensures { MatchOption result (numbered number ≡ false) (λ n. n.value ≡ number) }
+    {
+        if (1..=LAST_FORM).contains(&number) {
+            Some(Number { value: number })
+        } else {
+            None
+        }
+    }
+
+    // Where its form stands among all, counted from 0.
+    pub fn place(self) -> usize
+        ensures { result ≡ self.value - 1 }
+    {
+        usize::from(self.value) - 1
+    }
+}
+
+// The number of a form that is to be put. Under a number that no form has, every form is too long.
+pub fn admitted(number: u8, len: usize, longest: usize) -> Result<Number, StoreFault>
+    ensures { MatchResult result (λ n. (n.value ≡ number) × (len ≤ longest)) (λ e. (cond (numbered number) (nat_le len longest) false ≡ false) × (e ≡ TooLong)) }
 {
-    if is_number(number) {
-        Some(number as usize - 1)
-    } else {
-        None
+    match Number::new(number) {
+        Some(number) if len <= longest => Ok(number),
+        _ => Err(StoreFault::TooLong),
     }
 }
 
 // Fills the front of `out` with a form that fits, and else leaves all of `out`.
-pub fn fill(form: &[u8], out: &mut [u8]) -> Loaded
+pub fn fill(form: &[u8], out: &mut [u8]) -> Result<usize, LoadFault>
     ensures answer { result ≡ loaded_of (Some form.now) (length out.old) }
     ensures buffer { out.new ≡ filled_with (Some form.now) out.old }
 {
     let len = form.len();
     if len > out.len() {
-        return Loaded::NoRoom;
+        return Err(LoadFault::NoRoom);
     }
-    out[0..len].copy_from_slice(form);
-    Loaded::Filled(len)
+    out[..len].copy_from_slice(form);
+    Ok(len)
 }

@@ -3,8 +3,8 @@ ghost use Rattle.std.specs.Prelude.{◌≡◌, length, if◌then◌else◌, nat_
 ghost use Rattle.stores.specs.Forms.{lowered, others, size_of};
 ghost use Rattle.std.proofs.Common.{rules};
 
-use crate::answers::{Loaded, StoreFault};
-use crate::parts::is_number;
+use crate::answers::{LoadFault, StoreFault};
+use crate::parts::admitted;
 use crate::store::FormStore;
 use limits::sizes::LAST_FORM;
 
@@ -32,26 +32,15 @@ impl<S: FormStore> Quota<S> {
     }
 }
 
-// The bytes of one form, but none for the form that does not count.
-fn size_but<S: FormStore>(store: &S, number: u8, but: u8) -> usize
-    ensures { result ≡ (if nat_eq number but then 0 else size_of ((S.FormStore.forms store.now).at number)) }
-{
-    if number == but {
-        return 0;
-    }
-    match store.size(number) {
-        Some(len) => len,
-        None => 0,
-    }
-}
-
 // The bytes of all forms but one.
 fn others_of<S: FormStore>(store: &S, but: u8) -> usize
     ensures { result ≡ others (S.FormStore.forms store.now) but }
 {
     let mut sum = 0;
-    for k in 0..LAST_FORM {
-        sum += size_but(store, k + 1, but);
+    for number in 1..=LAST_FORM {
+        if number != but {
+            sum += store.size(number).unwrap_or(0);
+        }
     }
     sum
 }
@@ -65,7 +54,7 @@ impl<S: FormStore> FormStore for Quota<S> {
         self.below.size(number)
     }
 
-    fn read(&mut self, number: u8, out: &mut [u8]) -> Loaded {
+    fn read(&mut self, number: u8, out: &mut [u8]) -> Result<usize, LoadFault> {
         self.below.read(number, out)
     }
 
@@ -74,10 +63,9 @@ impl<S: FormStore> FormStore for Quota<S> {
     }
 
     // Too long comes before full, so the length is tested here as well as below.
+    #[tactic(auto, using(crate::specs::FormLaws::others_least))]
     fn put(&mut self, number: u8, form: &[u8]) -> Result<(), StoreFault> {
-        if !is_number(number) || form.len() > self.below.longest() {
-            return Err(StoreFault::TooLong);
-        }
+        admitted(number, form.len(), self.below.longest())?;
         if others_of(&self.below, number) + form.len() > self.figure {
             return Err(StoreFault::Full);
         }

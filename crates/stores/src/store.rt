@@ -2,8 +2,9 @@
 ghost use Rattle.std.specs.Prelude.{◌≡◌, ℕ, length};
 ghost use Rattle.stores.specs.Forms.{Forms, Lawful, length_of, loaded_of, filled_with, put_answer, after_put, emptied};
 
-use crate::answers::{Loaded, StoreFault};
+use crate::answers::{LoadFault, StoreFault};
 
+// Kept so: a number and a form, or a buffer, are what a caller has in hand; a pair of them would be taken apart at once.
 pub trait FormStore {
     ghost forms: { Self → Forms };
 
@@ -11,8 +12,8 @@ pub trait FormStore {
     fn size(&self, number: u8) -> Option<usize>
         ensures { result ≡ length_of ((forms self.now).at number) };
 
-    // Fills the front of `out` with a form that fits, and else leaves all of `out`.
-    fn read(&mut self, number: u8, out: &mut [u8]) -> Loaded
+    // Fills the front of `out` with a form that fits, and else leaves all of `out`. The answer is the form's length.
+    fn read(&mut self, number: u8, out: &mut [u8]) -> Result<usize, LoadFault>
         ensures answer { result ≡ loaded_of ((forms self.old).at number) (length out.old) }
         ensures buffer { out.new ≡ filled_with ((forms self.old).at number) out.old }
         ensures same { forms self.new ≡ forms self.old };

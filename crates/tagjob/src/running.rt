@@ -21,7 +21,7 @@ pub fn run_job<L: Listener>(
     ensures { IfOk result (λ tags. Told job.now answer.old work.old tags answer.new work.new) }
 {
     let Ok(roll) = Roll::new(ROLL) else {
-        return Ok(0);
+        unreachable!()
     };
     let (_station, told) = work_through(
         PackedStore::new(),

@@ -1,41 +1,19 @@
 // A refusal as it is written: R, number, layer, form and place in 2, 1, 2 and 6 characters, parted by commas.
 ghost use Rattle.std.specs.Prelude.{◌≡◌};
 ghost use Rattle.tagjob.specs.Refusals.{refusal_line};
-ghost use Rattle.tagline.specs.Digits.{digit};
 
 use faults::Fault;
-
-// The last digit of a number.
-fn digit_of(n: usize) -> u8
-    ensures { result ≡ digit n }
-{
-    b'0' + (n % 10) as u8
-}
+use tagline::digits::digits;
 
 // The line of a refusal.
 pub fn refusal_line(fault: &Fault) -> [u8; 17]
     ensures { result ≡ refusal_line fault.now }
 {
-    let number = usize::from(fault.refusal.number());
-    let form = usize::from(fault.form);
-    let place = fault.place;
+    let [n1, n0] = digits::<2>(usize::from(fault.refusal.number()));
+    let [f1, f0] = digits::<2>(usize::from(fault.form));
+    let [p5, p4, p3, p2, p1, p0] = digits::<6>(fault.place);
+    let layer = fault.refusal.layer().letter();
     [
-        b'R',
-        b',',
-        digit_of(number / 10),
-        digit_of(number),
-        b',',
-        fault.refusal.layer().letter(),
-        b',',
-        digit_of(form / 10),
-        digit_of(form),
-        b',',
-        digit_of(place / 100_000),
-        digit_of(place / 10_000),
-        digit_of(place / 1000),
-        digit_of(place / 100),
-        digit_of(place / 10),
-        digit_of(place),
-        b'\n',
+        b'R', b',', n1, n0, b',', layer, b',', f1, f0, b',', p5, p4, p3, p2, p1, p0, b'\n',
     ]
 }

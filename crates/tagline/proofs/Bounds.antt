@@ -1,7 +1,6 @@
 -- No line is longer than the longest line: a head of 9 bytes, 24 pieces of at most 56, and LF.
 use Rattle.std.proofs.Common.{◌≡◌, ℕ, zero, suc, ◌+◌, ◌-◌, ◌*◌, ◌≤◌, Bool, true, false, cond, eqb, leb, List, [], ◌∷◌, ◌++◌, map, length, replicate, pos, Some, None, Option, refl, ap, arith, length-append}
 use Rattle.limits.specs.Limits.{longest_text, longest_finished, longest_line}
-use Rattle.std.proofs.lemmas.List.{length-take-le}
 use Rattle.texts.specs.Checks.{check_character}
 use Rattle.texts.specs.Finishing.{blanked, suppressed, finished_text}
 use Rattle.texts.specs.declared.checks.Check.{Check}
@@ -67,7 +66,7 @@ line_short number size t texts bars p q =
 pub seen_short : (fields : List Field) → ShortSlots (map seen_field fields)
 seen_short [] = tt
 seen_short (f ∷ fs) =
-    (omega (arith, length-take-le f.text.len f.text.bytes (omega (arith, f.text.within, f.text.sized)), f.text.within), seen_short fs)
+    (f.text.plain.short, seen_short fs)
 
 -- and the bound is met: a field with a full text and a check character, everywhere
 abbrev full : Slot

@@ -1,10 +1,16 @@
 -- Numbers as a tag writes them.
 --   digit n      the last decimal digit of n, as a character
+--   digits k n   the last k digits of n
 --   two n, four n   the last two digits of n, the last four
-use Rattle.std.specs.Prelude.{ℕ, ◌+◌, ◌/◌, ◌%◌, List, [], ◌∷◌}
+use Rattle.std.specs.Prelude.{ℕ, zero, suc, ◌+◌, ◌/◌, ◌%◌, ◌^◌, List, [], ◌∷◌}
 
 abbrev pub digit : ℕ → ℕ
 digit n = 48 + n % 10
+
+abbrev pub digits : ℕ → ℕ → List ℕ
+digits zero n = []
+digits (suc zero) n = digit n ∷ []
+digits (suc (suc k)) n = digit (n / 10 ^ suc k) ∷ digits (suc k) n
 
 abbrev pub two : ℕ → List ℕ
 two n = digit (n / 10) ∷ digit n ∷ []

@@ -4,6 +4,7 @@
 --   pieces t       the pieces of all fields in the order of print: text fields before bars, each kind by its numbers
 --   line_of number size t   the line: the number of the tag in its issue and the size of the issue, four digits each, parted
 --                  by a comma, then the pieces of all fields, then LF
+--   Put bytes before after n   the bytes, n in number, lie in the front of a buffer, and all behind them is as it was
 --   Written line before after r   what writing a line into a buffer answers: its length, with the line in the front of
 --                  the buffer and all bytes behind it as they were; or nothing, where the buffer is too short for the longest
 --                  line, and then the buffer is as it was
@@ -63,6 +64,9 @@ line_of number size t = line_over number size t.texts t.bars
 
 abbrev pub ShortSlots : List Slot → Type 0
 ShortSlots = AllByRecursion (λ s. length s.text ≤ longest_text)
+
+abbrev pub Put : List ℕ → List ℕ → List ℕ → ℕ → Type 0
+Put bytes before after n = (n ≡ length bytes) × (after ≡ bytes ++ drop n before)
 
 abbrev pub Written : List ℕ → List ℕ → List ℕ → Option ℕ → Type 0
 Written line before after (Some n) = (n ≡ length line) × (after ≡ line ++ drop n before) × (n ≤ longest_line) × (longest_line ≤ length before)

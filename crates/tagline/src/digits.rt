@@ -1,21 +1,16 @@
 // Numbers as a tag writes them.
 ghost use Rattle.std.specs.Prelude.{◌≡◌};
-ghost use Rattle.tagline.specs.Digits.{digit, two, four};
+ghost use Rattle.tagline.specs.Digits.{digits};
 
-fn digit(n: usize) -> u8
-    ensures { result ≡ digit n }
+// The last N decimal digits of a number, as characters.
+pub fn digits<const N: usize>(n: usize) -> [u8; N]
+    ensures { result ≡ digits N n }
 {
-    b'0' + (n % 10) as u8
-}
-
-pub(crate) fn two(n: usize) -> [u8; 2]
-    ensures { result ≡ two n }
-{
-    [digit(n / 10), digit(n)]
-}
-
-pub(crate) fn four(n: usize) -> [u8; 4]
-    ensures { result ≡ four n }
-{
-    [digit(n / 1000), digit(n / 100), digit(n / 10), digit(n)]
+    let mut told = [b'0'; N];
+    let mut rest = n;
+    for place in (0..N).rev() {
+        told[place] = b'0' + (rest % 10) as u8;
+        rest /= 10;
+    }
+    told
 }

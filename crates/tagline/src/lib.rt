@@ -1,6 +1,5 @@
 // The line of a finished tag, as it is handed to the printer.
 #![tactic(auto)]
 
-mod digits;
+pub mod digits;
 pub mod line;
-mod put;

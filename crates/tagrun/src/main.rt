@@ -1,6 +1,7 @@
 // Does a job of standard input on a new station, and writes every tag's line and every refusal.
 #![tactic(auto)]
 
+use faults::Refusal;
 use jobparts::bytes::first;
 use jobrun::listener::Listener;
 use jobrun::turn::Turn;
@@ -8,9 +9,6 @@ use std::io;
 use std::io::{BufWriter, Read, Write};
 use tagjob::running::run_job;
 use tagjob::telling::refusal_line;
-
-// The number of the refusal at a job's end, which is not written.
-const JOB_END: u8 = 3;
 
 // Writes what a job does.
 #[derive(Drop)]
@@ -24,13 +22,9 @@ impl<W: Write> Listener for Report<W> {
     fn hear(&mut self, turn: &Turn, work: &[u8]) -> io::Result<()> {
         match turn {
             Turn::Tag(n) => self.out.write_all(first(work, *n)),
-            Turn::Refused(fault) => self.out.write_all(&refusal_line(fault)),
-            Turn::Ended(fault) => {
-                if fault.refusal.number() == JOB_END {
-                    return Ok(());
-                }
-                self.out.write_all(&refusal_line(fault))
-            }
+            // The job's end is a fault that is not written.
+            Turn::Ended(fault) if fault.refusal == Refusal::JobEnd => Ok(()),
+            Turn::Refused(fault) | Turn::Ended(fault) => self.out.write_all(&refusal_line(fault)),
             Turn::Done(_) | Turn::Spent(_) => Ok(()),
         }
     }

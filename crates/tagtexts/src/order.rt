@@ -1,5 +1,6 @@
 // An order for a run of texts, as a line says it: RULE,TEXT,STEP,CHECK,ZEROS,COUNT.
 use std::fmt;
+use std::str::FromStr;
 use texts::checks::Check;
 use texts::text::{Text, TextFault};
 
@@ -63,75 +64,87 @@ impl From<TextFault> for Wrong {
     }
 }
 
-fn rule_named(part: &str) -> Option<RuleName> {
-    match part {
-        "plain" => Some(RuleName::Plain),
-        "code128" => Some(RuleName::Code128),
-        _ => None,
+impl FromStr for RuleName {
+    type Err = Wrong;
+
+    fn from_str(part: &str) -> Result<RuleName, Wrong> {
+        match part {
+            "plain" => Ok(RuleName::Plain),
+            "code128" => Ok(RuleName::Code128),
+            _ => Err(Wrong::Rule),
+        }
     }
 }
 
-fn check_named(part: &str) -> Option<Check> {
+fn check_of(part: &str) -> Result<Check, Wrong> {
     match part {
-        "-" => Some(Check::NoCheck),
-        "M0" => Some(Check::Modulus10),
-        "M1" => Some(Check::Modulus43),
-        _ => None,
+        "-" => Ok(Check::NoCheck),
+        "M0" => Ok(Check::Modulus10),
+        "M1" => Ok(Check::Modulus43),
+        _ => Err(Wrong::Check),
     }
 }
 
 // A step has a sign or none, and at most ten digits.
-fn step_of(part: &str) -> Option<i64> {
-    let step = part.parse::<i64>().ok()?;
-    if step < -9_999_999_999 || step > 9_999_999_999 {
-        return None;
-    }
-    Some(step)
+fn step_of(part: &str) -> Result<i64, Wrong> {
+    part.parse::<i64>()
+        .ok()
+        .filter(|step| step.unsigned_abs() <= 9_999_999_999)
+        .ok_or(Wrong::Step)
 }
 
 // The places that zero suppression keeps: none named, or 00 to 41.
-fn kept_of(part: &str) -> Option<Option<u8>> {
+fn kept_of(part: &str) -> Result<Option<u8>, Wrong> {
     if part == "-" {
-        return Some(None);
+        return Ok(None);
     }
-    let kept = part.strip_prefix('Z')?.parse::<u8>().ok()?;
-    if kept > 41 {
-        return None;
+    let kept = part.strip_prefix('Z').ok_or(Wrong::Zeros)?;
+    match kept.parse::<u8>() {
+        Ok(kept @ 0..=41) => Ok(Some(kept)),
+        _ => Err(Wrong::Zeros),
     }
-    Some(Some(kept))
 }
 
-fn count_of(part: &str) -> Option<u16> {
-    let count = part.parse::<u16>().ok()?;
-    if count == 0 || count > 9999 {
-        return None;
+fn count_of(part: &str) -> Result<u16, Wrong> {
+    match part.parse::<u16>() {
+        Ok(count @ 1..=9999) => Ok(count),
+        _ => Err(Wrong::Count),
     }
-    Some(count)
 }
 
-pub fn read_order(line: &[u8]) -> Result<Order, Wrong> {
-    let Ok(line) = std::str::from_utf8(line) else {
-        return Err(Wrong::Letters);
-    };
-    let mut parts = line.split(',');
-    let rule = rule_named(parts.next().ok_or(Wrong::Rule)?).ok_or(Wrong::Rule)?;
-    let text = Text::from_bytes(parts.next().ok_or(Wrong::TextLong)?.as_bytes())?;
-    let step = step_of(parts.next().ok_or(Wrong::Step)?).ok_or(Wrong::Step)?;
-    let check = check_named(parts.next().ok_or(Wrong::Check)?).ok_or(Wrong::Check)?;
-    let kept = kept_of(parts.next().ok_or(Wrong::Zeros)?).ok_or(Wrong::Zeros)?;
-    let count = count_of(parts.next().ok_or(Wrong::Count)?).ok_or(Wrong::Count)?;
-    if parts.next().is_some() {
-        return Err(Wrong::Parts);
+impl FromStr for Order {
+    type Err = Wrong;
+
+    fn from_str(line: &str) -> Result<Order, Wrong> {
+        let mut parts = line.split(',');
+        let rule = parts.next().ok_or(Wrong::Rule)?.parse::<RuleName>()?;
+        let text = Text::from_bytes(parts.next().ok_or(Wrong::TextLong)?.as_bytes())?;
+        let step = step_of(parts.next().ok_or(Wrong::Step)?)?;
+        let check = check_of(parts.next().ok_or(Wrong::Check)?)?;
+        let kept = kept_of(parts.next().ok_or(Wrong::Zeros)?)?;
+        let count = count_of(parts.next().ok_or(Wrong::Count)?)?;
+        if parts.next().is_some() {
+            return Err(Wrong::Parts);
+        }
+        if !check.admits(text.as_bytes()) {
+            return Err(Wrong::Foreign);
+        }
+        Ok(Order {
+            rule,
+            text,
+            step,
+            check,
+            kept,
+            count,
+        })
     }
-    if !check.admits(text.as_bytes()) {
-        return Err(Wrong::Foreign);
+}
+
+impl TryFrom<&[u8]> for Order {
+    type Error = Wrong;
+
+    fn try_from(line: &[u8]) -> Result<Order, Wrong> {
+        let line = std::str::from_utf8(line).map_err(|_| Wrong::Letters)?;
+        line.parse::<Order>()
     }
-    Ok(Order {
-        rule,
-        text,
-        step,
-        check,
-        kept,
-        count,
-    })
 }

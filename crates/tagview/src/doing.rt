@@ -13,6 +13,7 @@ pub(crate) fn act_at(label: &mut Label, job: &[u8], at: usize) -> Result<usize, 
 {
     let (answer, next) = read(job, at);
     let command = answer?;
+    // Kept so: by map_err, what the fault says of the label stays open behind the closure.
     match label.act(&command) {
         Ok(()) => Ok(next),
         Err(fault) => Err(Fault {

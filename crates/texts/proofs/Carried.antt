@@ -1,5 +1,5 @@
 -- The walk from the right: the last places turned so far, and what they carry on.
-use Rattle.std.proofs.Common.{◌≡◌, ℕ, zero, suc, ◌+◌, ◌-◌, ◌*◌, ◌/◌, ◌%◌, ◌<◌, ◌≤◌, Bool, true, false, ltb, List, length, ℤ, pos, nat_abs, sym, refl, ap, ◌∙◌, subst, mod-eq_of_lt, mul_assoc, add-mul, add_comm, add-one, arith}
+use Rattle.std.proofs.Common.{◌≡◌, ℕ, zero, suc, ◌+◌, ◌-◌, ◌*◌, ◌/◌, ◌%◌, ◌<◌, ◌≤◌, Bool, true, false, ltb, List, length, ℤ, pos, nat_abs, sym, refl, ap, ◌∙◌, subst, mod-eq_of_lt, mul_assoc, add-mul, add_comm, arith}
 use native.Mathlib.Nat.{add-mul-div_right, add-mul-mod_self_right}
 use lib.Arith.{digits_lt, digits_div}
 use lib.Signed.{lt_z}
@@ -61,10 +61,13 @@ module _ (w : Wheels) (l : Lawful w) (t : List ℕ) (h : IsText t) where
         text = sym (cond-false (ltb 1 (w.radix t p)) _ t (le-ltb 1 (w.radix t p) (omega arith)));
       }
 
-  pub carried_none : (down : Bool) (by : ℕ) → Carried w t down by 0 by t
-  carried_none down by = record { to = 0; low = omega arith; rolls = rolls_none down by; text = refl }
+  carried_start : (down : Bool) (by : ℕ) → Carried w t down by 0 by t
+  carried_start down by = record { to = 0; low = omega arith; rolls = rolls_none down by; text = refl }
 
-  pub carried_more : (down : Bool) (by k c e : ℕ) (u x : List ℕ) → suc k ≤ length t → Carried w t down by k c u → Rolled w u (length t - suc k) down c x e → Carried w t down by (suc k) e x
+  pub carried_none : (down : Bool) (by k : ℕ) → 0 ≡ k → Carried w t down by k by t
+  carried_none down by k none = subst (λ j. Carried w t down by j by t) none (carried_start down by)
+
+  carried_more : (down : Bool) (by k c e : ℕ) (u x : List ℕ) → suc k ≤ length t → Carried w t down by k c u → Rolled w u (length t - suc k) down c x e → Carried w t down by (suc k) e x
   carried_more down by k c e u x le s roll =
       let p = length t - suc k in
       let lt : p < length t = omega arith in
@@ -84,10 +87,14 @@ module _ (w : Wheels) (l : Lawful w) (t : List ℕ) (h : IsText t) where
         text = roll.text ∙ sym (ap (λ y. placed w y p ((v * m + s.to) / m % w.radix t p)) rest ∙ ap (placed w u p) digit);
       }
 
-  -- the same as the loop has it
-  pub carried_step : (down : Bool) (by k c e p : ℕ) (u x : List ℕ) → k < length t → p ≡ length t - suc k → Carried w t down by k c u → Rolled w u p down c x e → Carried w t down by (k + 1) e x
-  carried_step down by k c e p u x le at s roll =
-      subst (λ j. Carried w t down by j e x) (sym (add-one k)) (carried_more down by k c e u x le s (subst (λ q. Rolled w u q down c x e) at roll))
+  -- the same by the place that the loop has come to
+  pub carried_step : (down : Bool) (by place c e : ℕ) (u x : List ℕ) → 0 < place → place ≤ length t → Carried w t down by (length t - place) c u → Rolled w u (place - 1) down c x e
+      → Carried w t down by (length t - (place - 1)) e x
+  carried_step down by place c e u x some le s roll =
+      let k = length t - place in
+      let at : place - 1 ≡ length t - suc k = omega arith in
+      let one : suc k ≡ length t - (place - 1) = omega arith in
+      subst (λ j. Carried w t down by j e x) one (carried_more down by k c e u x (omega arith) s (subst (λ q. Rolled w u q down c x e) at roll))
 
   pub carried_kept : (down : Bool) (by k c : ℕ) (u : List ℕ) → k ≤ length t → Carried w t down by k c u → Kept w t u
   carried_kept down by k c u le s = subst (Kept w t) (sym s.text) (wrote w l t h s.to k le).kept

@@ -17,12 +17,12 @@ stepped_lt n s m some = rem_lt (pos n +ℤ s) m some
 
 pub is_zero_lem : (s : ℤ) → is_zero s ≡ true → s ≡ pos 0
 is_zero_lem (pos n) e = ap pos (eqb-true n 0 e)
-is_zero_lem (negsuc n) e = absurd (let z : ◌≡◌ {A = ℕ} 0 1 = cc in let y : ⊥ = omega arith in y)
+is_zero_lem (negsuc n) e = cc
 
 -- a step in its 64 bits is 0 just where they are
 pub zero_bits : (s : ℤ) → SFits w64 s → of_z w64 s ≡ 0 → is_zero s ≡ true
 zero_bits (pos n) fits e = eq-eqb n 0 e
-zero_bits (negsuc n) fits e = absurd (let z : ⊥ = omega (arith, ints) in z)
+zero_bits (negsuc n) fits e = absurd (omega (arith, ints))
 
 pub some_bits : (s : ℤ) → (of_z w64 s ≡ 0 → ⊥) → is_zero s ≡ false
 some_bits (pos n) ne = ne_eqb n 0 ne
@@ -39,8 +39,8 @@ stepped_is false n m by to rounds (pos a) same sign lt e =
     let same' : by ≡ a = same in
     let sum : n + a ≡ to + rounds * m = omega arith in
     ap (λ k. k % m) sum ∙ add-mul-mod_self_right to rounds m ∙ mod-eq_of_lt lt
-stepped_is true n m by to rounds (pos a) same sign lt e = absurd (let z : ⊥ = omega (arith, ltb-true a 0 sign) in z)
-stepped_is false n m by to rounds (negsuc a) same sign lt e = absurd (let z : ◌≡◌ {A = ℕ} 0 1 = cc in let y : ⊥ = omega arith in y)
+stepped_is true n m by to rounds (pos a) same sign lt e = absurd (omega (arith, ltb-true a 0 sign))
+stepped_is false n m by to rounds (negsuc a) same sign lt e = cc
 stepped_is true n m by to rounds (negsuc a) same sign lt e =
     let same' : by ≡ suc a = same in
     ap nat_abs (int_rem_euclid_is (pos n +ℤ negsuc a) (pos m) m rounds to (omega arith) refl (omega (arith, ints))) ∙ mod-eq_of_lt lt

@@ -34,7 +34,7 @@ module _ (w : Wheels) (l : Lawful w) (t : List ℕ) (h : IsText t) where
         long = length-set u p b ∙ s.long;
         stays = λ q inside one.
             at_set (λ x. x ≡ get_or t q 0) u p b q lt'
-            (λ e. absurd (let r : w.radix t q ≡ w.radix t p = ap (w.radix t) e in let z : ⊥ = omega arith in z))
+            (λ e. absurd (let r : w.radix t q ≡ w.radix t p = ap (w.radix t) e in omega arith))
             (λ ne. s.stays q inside one);
         digits = λ q inside d.
             at_set (λ x. is_digit x ≡ true) u p b q lt'
@@ -87,7 +87,7 @@ module _ (w : Wheels) (l : Lawful w) (t : List ℕ) (h : IsText t) where
       }
 
   pub wrote : (n k : ℕ) → k ≤ length t → Wrote w t n k (written w t n k)
-  wrote n zero le = record { kept = kept_all w t; radices = λ p lt. refl; digit = λ j lt. absurd (let z : ⊥ = omega arith in z); front = λ p lt. refl }
+  wrote n zero le = record { kept = kept_all w t; radices = λ p lt. refl; digit = λ j lt. absurd (omega arith); front = λ p lt. refl }
   wrote n (suc k) le =
       let u = written w t n k in
       let s = wrote n k (omega arith) in

@@ -1,11 +1,13 @@
 -- Check characters: modulus 10 as GS1 defines it, modulus 43 as ISO/IEC 16388 does.
 --   value10 b, value43 b     what a character counts for; a character outside the set of its check counts for 0
 --   character43 v            the character that counts for v
+--   counts c b               what a character counts for under the check c
 --   weight n                 in modulus 10 a digit with n digits behind it counts 3 times, once, 3 times, .. from the right
 --   check_sum c t            the weighted sum of t under the check c
 --   check_character c t      the check character of t, as a text of one byte; none for NoCheck
 --   admits c b               the check c takes the character b;  admits_all c t  it takes all of t
 use Rattle.std.specs.Prelude.{ℕ, ◌+◌, ◌-◌, ◌*◌, ◌%◌, Bool, true, false, cond, List, [], ◌∷◌, length, ◌==◌, nat_lt, slice_index}
+use Rattle.std.specs.List.{list_all}
 use Rattle.limits.specs.Bytes.{is_digit, is_capital}
 use Rattle.texts.specs.declared.checks.Check.{Check}
 use Rattle.texts.specs.declared.checks.Check.TheVariants.{NoCheck, Modulus10, Modulus43}
@@ -28,10 +30,15 @@ character43 v =
 abbrev pub weight : ℕ → ℕ
 weight n = cond (n % 2 == 0) 3 1
 
+abbrev pub counts : Check → ℕ → ℕ
+counts NoCheck b = 0
+counts Modulus10 b = value10 b
+counts Modulus43 b = value43 b
+
 abbrev pub worth : Check → ℕ → ℕ → ℕ
-worth NoCheck n b = 0
-worth Modulus10 n b = weight n * value10 b
-worth Modulus43 n b = value43 b
+worth NoCheck n b = counts NoCheck b
+worth Modulus10 n b = weight n * counts Modulus10 b
+worth Modulus43 n b = counts Modulus43 b
 
 abbrev pub check_sum : Check → List ℕ → ℕ
 check_sum c [] = 0
@@ -51,5 +58,4 @@ admits Modulus10 b = is_digit b
 admits Modulus43 b = admits43 b
 
 abbrev pub admits_all : Check → List ℕ → Bool
-admits_all c [] = true
-admits_all c (b ∷ bs) = cond (admits c b) (admits_all c bs) false
+admits_all c = list_all (admits c)

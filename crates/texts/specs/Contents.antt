@@ -2,7 +2,8 @@
 --   contents t     the bytes of the text t
 --   Made s r       r is what making a text from the bytes s answers: the text with just these bytes; or, a byte that no
 --                  text may hold being worse than too many bytes, the place of the first such byte; or that they are too many
-use Rattle.std.specs.Prelude.{◌≡◌, ℕ, ◌<◌, ◌≤◌, false, List, length, take, Ok, Err, Result, slice_index}
+use Rattle.std.specs.Prelude.{◌≡◌, ℕ, ◌<◌, ◌≤◌, false, List, length, Ok, Err, Result, slice_index}
+use Rattle.fixedvec.specs.Items.{items}
 use Rattle.limits.specs.Bytes.{in_text}
 use Rattle.limits.specs.Limits.{longest_text}
 use Rattle.texts.specs.Plain.{InTextBelow}
@@ -11,7 +12,7 @@ use Rattle.texts.specs.declared.text.TextFault.{TextFault}
 use Rattle.texts.specs.declared.text.TextFault.TheVariants.{BadByte, TooLong}
 
 abbrev pub contents : Text → List ℕ
-contents t = take t.len t.bytes
+contents t = items t.bytes
 
 pub record FirstBad (s : List ℕ) (k : ℕ) : Type 0 where
   pub there : k < length s

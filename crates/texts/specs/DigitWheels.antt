@@ -102,20 +102,25 @@ mark_blind t p b lt was is q =
     (λ ne. ap (λ x. nat_eq x 62) (get_or-set_other t p q b 0 ne))
     (cases_eq q p)
 
-pub plain_lawful : Lawful (digit_wheels plain_place)
-plain_lawful = digits_lawful plain_place (record { digit = λ t p e. e; blind = plain_blind })
+pub plain_tests : Tests plain_place
+plain_tests = record { digit = λ t p e. e; blind = plain_blind }
 
-pub code128_lawful : Lawful (digit_wheels code128_place)
-code128_lawful =
-    digits_lawful code128_place
-    (record {
+pub code128_tests : Tests code128_place
+code128_tests =
+    record {
       digit = λ t p e. passes (after_mark t p) (plain_place t p) e;
       blind = λ t p b lt was is q.
           ap (λ x. cond (cond (q == 0) false x) false (plain_place (slice_set t p b) q)) (mark_blind t p b lt was is (q - 1))
           ∙ ap (cond (after_mark t q) false) (plain_blind t p b lt was is q);
-    })
+    }
   where
     passes : (m d : Bool) → cond m false d ≡ true → d ≡ true
     passes true true e = refl
     passes true false e = e
     passes false d e = e
+
+pub plain_lawful : Lawful (digit_wheels plain_place)
+plain_lawful = digits_lawful plain_place plain_tests
+
+pub code128_lawful : Lawful (digit_wheels code128_place)
+code128_lawful = digits_lawful code128_place code128_tests

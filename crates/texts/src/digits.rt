@@ -1,11 +1,20 @@
 // The counting rules whose wheels are digits: plain texts, and texts of Code 128.
-ghost use Rattle.std.specs.Prelude.{◌≡◌, ◌+◌, ◌-◌, true, false, if◌then◌else◌, nat_lt, slice_index};
-ghost use Rattle.limits.specs.Bytes.{is_digit};
+ghost use Rattle.std.specs.Prelude.{◌≡◌, ℕ, Bool, List, slice_index};
 ghost use Rattle.texts.specs.Digits.{digit_wheels, plain_place, after_mark, code128_place};
-ghost use Rattle.texts.specs.DigitWheels.{plain_lawful, code128_lawful};
+ghost use Rattle.texts.specs.DigitWheels.{Tests, digits_lawful, plain_tests, code128_tests};
 
 use crate::rule::CountingRule;
 use limits::bytes::is_digit;
+
+// A rule whose wheels are digits, by which digits they are. specs/DigitWheels.antt has what such a test may see.
+pub trait DigitRule {
+    ghost wheel: { Self → List ℕ → ℕ → Bool };
+
+    fn is_wheel(&self, text: &[u8], place: usize) -> bool
+        ensures { result ≡ wheel self.now text.now place };
+
+    ghost tests: { (r : Self) → Tests (wheel r) };
+}
 
 // Every digit is a wheel.
 #[derive(Clone, Copy)]
@@ -19,13 +28,7 @@ pub struct Code128Rule;
 fn byte_at(text: &[u8], place: usize) -> u8
     ensures { result ≡ slice_index text.now place }
 {
-    if place < text.len() { text[place] } else { 0 }
-}
-
-fn is_plain_wheel(text: &[u8], place: usize) -> bool
-    ensures { result ≡ plain_place text.now place }
-{
-    is_digit(byte_at(text, place))
+    text.get(place).copied().unwrap_or(0)
 }
 
 fn is_after_mark(text: &[u8], place: usize) -> bool
@@ -34,68 +37,47 @@ fn is_after_mark(text: &[u8], place: usize) -> bool
     place > 0 && byte_at(text, place - 1) == b'>'
 }
 
-fn is_code128_wheel(text: &[u8], place: usize) -> bool
-    ensures { result ≡ code128_place text.now place }
-{
-    !is_after_mark(text, place) && is_plain_wheel(text, place)
-}
+impl DigitRule for PlainRule {
+    ghost wheel = { λ _. plain_place };
 
-// The radix, the value and the bytes of a place that holds `byte`, which is a digit where it is a wheel.
-fn radix_if(wheel: bool) -> u8
-    ensures { result ≡ (if wheel then 10 else 1) }
-{
-    if wheel { 10 } else { 1 }
-}
+    ghost tests = { λ _. plain_tests };
 
-fn value_if(wheel: bool, byte: u8) -> u8
-    requires { wheel ≡ true → is_digit byte ≡ true }
-    ensures { result ≡ (if wheel then byte - 48 else 0) }
-{
-    if wheel { byte - b'0' } else { 0 }
-}
-
-fn byte_if(wheel: bool, byte: u8, value: u8) -> u8
-    ensures { result ≡ (if (if wheel then nat_lt value 10 else false) then 48 + value else byte) }
-{
-    if wheel && value < 10 {
-        b'0' + value
-    } else {
-        byte
+    fn is_wheel(&self, text: &[u8], place: usize) -> bool {
+        is_digit(byte_at(text, place))
     }
 }
 
-impl CountingRule for PlainRule {
-    ghost wheels = { λ _. digit_wheels plain_place };
+impl DigitRule for Code128Rule {
+    ghost wheel = { λ _. code128_place };
 
-    ghost lawful = { λ r. plain_lawful };
+    ghost tests = { λ _. code128_tests };
+
+    fn is_wheel(&self, text: &[u8], place: usize) -> bool {
+        !is_after_mark(text, place) && PlainRule.is_wheel(text, place)
+    }
+}
+
+impl<D: DigitRule> CountingRule for D {
+    ghost wheels = { λ r. digit_wheels (D.wheel r) };
+
+    ghost lawful = { λ r. digits_lawful (D.wheel r) (D.tests r) };
 
     fn radix(&self, text: &[u8], place: usize) -> u8 {
-        radix_if(is_plain_wheel(text, place))
+        if self.is_wheel(text, place) { 10 } else { 1 }
     }
 
     fn value(&self, text: &[u8], place: usize) -> u8 {
-        value_if(is_plain_wheel(text, place), byte_at(text, place))
+        if !self.is_wheel(text, place) {
+            return 0;
+        }
+        byte_at(text, place) - b'0'
     }
 
     fn byte(&self, text: &[u8], place: usize, value: u8) -> u8 {
-        byte_if(is_plain_wheel(text, place), byte_at(text, place), value)
-    }
-}
-
-impl CountingRule for Code128Rule {
-    ghost wheels = { λ _. digit_wheels code128_place };
-
-    ghost lawful = { λ r. code128_lawful };
-
-    fn radix(&self, text: &[u8], place: usize) -> u8 {
-        radix_if(is_code128_wheel(text, place))
-    }
-
-    fn value(&self, text: &[u8], place: usize) -> u8 {
-        value_if(is_code128_wheel(text, place), byte_at(text, place))
-    }
-
-    fn byte(&self, text: &[u8], place: usize, value: u8) -> u8 {
-        byte_if(is_code128_wheel(text, place), byte_at(text, place), value)
+        if value < 10 && self.is_wheel(text, place) {
+            b'0' + value
+        } else {
+            byte_at(text, place)
+        }
     }
 }

@@ -4,6 +4,7 @@ ghost use Rattle.texts.specs.Wheels.{Wheels, Lawful};
 
 // A place has a radix, that is how many values it can have (a place of radix 1 is fixed, any other is a wheel), a value
 // below it, and a byte for each such value. specs/Wheels.antt has the laws.
+// Kept so: a rule is asked of a text that is being turned; a struct of text and place would borrow what is written between.
 pub trait CountingRule {
     ghost wheels: { Self → Wheels };
 

@@ -1,17 +1,14 @@
 // A text: at most forty bytes from 20H to 7EH, none a comma.
-ghost use Rattle.std.specs.Prelude.{◌≡◌, ◌≤◌, length};
-ghost use Rattle.limits.specs.Limits.{longest_text};
-ghost use Rattle.texts.specs.Plain.{InTextBelow};
+ghost use Rattle.fixedvec.specs.Items.{items};
+ghost use Rattle.texts.specs.Plain.{IsText};
 
+use fixedvec::FixedVec;
 use limits::sizes::LONGEST_TEXT;
 
 #[derive(Clone, Copy)]
 pub struct Text {
-    pub(crate) bytes: [u8; LONGEST_TEXT],
-    pub(crate) len: usize,
-    ghost sized: { length bytes ≡ longest_text },
-    ghost within: { len ≤ longest_text },
-    ghost plain: { InTextBelow bytes len },
+    pub(crate) bytes: FixedVec<u8, LONGEST_TEXT>,
+    ghost plain: { IsText (items bytes) },
 }
 
 // Why bytes make no text.

@@ -9,70 +9,69 @@ ghost use Rattle.texts.specs.Rolling.{Rolls, Rolled};
 
 use crate::rule::CountingRule;
 use crate::text::Text;
+use fixedvec::FixedVec;
 
-// The place that has k places to its right.
-fn from_right(len: usize, k: usize) -> usize
-    requires { k < len }
-    ensures { result ≡ len - suc k }
-{
-    len - 1 - k
-}
-
-// What is carried into a wheel: whole rounds of it, and the rest. Most often there is no round, and so no division.
-fn rounds(radix: u8, carry: u64) -> (u64, u8)
-    requires { 1 < radix }
-    ensures below { result.1 < radix }
-    ensures few { result.0 < 2 ^ 63 }
-    ensures sum { result.0 * radix + result.1 ≡ carry }
-{
-    let size = radix as u64;
-    if carry < size {
-        return (0, carry as u8);
-    }
-    (carry / size, (carry % size) as u8)
-}
-
-// The value that a wheel turns to, and what it carries on.
-fn roll(radix: u8, value: u8, carry: u64, down: bool) -> (u8, u64)
-    requires wheel { 1 < radix }
-    requires low { value < radix }
-    ensures below { result.0 < radix }
-    ensures rolls { Rolls down radix value carry result.0 result.1 }
-{
-    let (whole, part) = rounds(radix, carry);
-    if down {
-        if value < part {
-            (value + (radix - part), whole + 1)
-        } else {
-            (value - part, whole)
-        }
-    } else if value < radix - part {
-        (value + part, whole)
-    } else {
-        (value - (radix - part), whole + 1)
-    }
-}
-
-// Turns one place by what is carried into it, and tells what it carries on. A fixed place passes all of it on.
-fn turn_place<R: CountingRule>(
-    rule: &R,
-    text: &mut [u8],
-    place: usize,
-    carry: u64,
+// What is to be carried into a wheel, and which way.
+// Kept so: a signed number would be asked for its sign at every wheel, and could not hold the lowest step turned round.
+#[derive(Clone, Copy)]
+struct Carry {
     down: bool,
-) -> u64
+    by: u64,
+}
+
+impl Carry {
+    // Whole rounds of a wheel, and the rest. Most often there is no round, and so no division.
+    fn rounds(&self, radix: u8) -> (u64, u8)
+        requires { 1 < radix }
+        ensures below { result.1 < radix }
+        ensures few { result.0 < 2 ^ 63 }
+        ensures sum { result.0 * radix + result.1 ≡ self.now.by }
+    {
+        let size = u64::from(radix);
+        if self.by < size {
+            return (0, self.by as u8);
+        }
+        (self.by / size, (self.by % size) as u8)
+    }
+
+    // The value that a wheel turns to; then it is what the wheel carries on.
+    fn roll(&mut self, radix: u8, value: u8) -> u8
+        requires wheel { 1 < radix }
+        requires low { value < radix }
+        ensures below { result < radix }
+        ensures way { self.new.down ≡ self.old.down }
+        ensures rolls { Rolls self.old.down radix value self.old.by result self.new.by }
+    {
+        let (whole, part) = self.rounds(radix);
+        let room = radix - part;
+        let (turned, round) = if self.down {
+            if value < part {
+                (value + room, 1)
+            } else {
+                (value - part, 0)
+            }
+        } else if value < room {
+            (value + part, 0)
+        } else {
+            (value - room, 1)
+        };
+        self.by = whole + round;
+        turned
+    }
+}
+
+// Turns one place by what is carried into it. A fixed place passes all of it on.
+fn turn_place<R: CountingRule>(rule: &R, text: &mut [u8], place: usize, carry: &mut Carry)
     requires text { IsText text.old }
     requires inside { place < length text.old }
-    ensures { Rolled (R.CountingRule.wheels rule.now) text.old place down carry text.new result }
+    ensures way { carry.new.down ≡ carry.old.down }
+    ensures rolled { Rolled (R.CountingRule.wheels rule.now) text.old place carry.old.down carry.old.by text.new carry.new.by }
 {
     let radix = rule.radix(text, place);
-    if radix < 2 {
-        return carry;
+    if radix >= 2 {
+        let turned = carry.roll(radix, rule.value(text, place));
+        text[place] = rule.byte(text, place, turned);
     }
-    let value = rule.value(text, place);
-    let (turned, carried) = roll(radix, value, carry, down);
-    text[place] = rule.byte(text, place, turned);
-    carried
 }
 
 // Turns a text's bytes, the rightmost place first. Every wheel gets the byte of its value, also where that is the value it had.
@@ -83,11 +82,12 @@ fn turn_wheels<R: CountingRule>(rule: &R, text: &mut [u8], step: i64)
     if step == 0 {
         return;
     }
-    let down = step < 0;
-    let mut carry = step.unsigned_abs();
-    let n = text.len();
-    for k in 0..n {
-        carry = turn_place(rule, text, from_right(n, k), carry, down);
+    let mut carry = Carry {
+        down: step < 0,
+        by: step.unsigned_abs(),
+    };
+    for place in (0..text.len()).rev() {
+        turn_place(rule, text, place, &mut carry);
     }
 }
 
@@ -97,10 +97,11 @@ impl Text {
         ensures turned { Turned (R.CountingRule.wheels rule.now) (contents self.now) step (contents result) }
         ensures admitted { (c : Check) → admits_all c (contents self.now) ≡ true → admits_all c (contents result) ≡ true }
     {
-        let mut bytes = self.bytes;
-        let n = self.len;
-        let part = &mut bytes[0..n];
-        turn_wheels(rule, part, step);
-        Text { bytes, len: n }
+        let n = self.bytes.len();
+        let mut cells = self.bytes.to_array();
+        turn_wheels(rule, &mut cells[..n], step);
+        Text {
+            bytes: FixedVec::of_front(cells, n),
+        }
     }
 }

@@ -7,12 +7,11 @@ use texts::text::Text;
 
 // The step is the first argument, or 1.
 fn step_of(rt: &HostRuntime) -> io::Result<i64> {
-    let mut args = env::args(rt)?;
-    let _name = args.next();
-    let Some(step) = args.next() else {
-        return Ok(1);
-    };
-    Ok(step.as_str().parse::<i64>().unwrap_or(1))
+    let step = env::args(rt)?.nth(1);
+    Ok(
+        step.and_then(|step| step.as_str().parse::<i64>().ok())
+            .unwrap_or(1),
+    )
 }
 
 fn main(rt: HostRuntime) -> io::Result<()> {

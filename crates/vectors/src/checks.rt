@@ -25,18 +25,20 @@ const CODE_39: [(&str, u8); 5] = [
     ("-12345", b'8'),
 ];
 
-fn told(check: Check, text: &str) -> u8 {
-    match Text::from_bytes(text.as_bytes()) {
-        Ok(text) => check.character(&text).unwrap_or(b'?'),
-        Err(_) => b'!',
-    }
+fn told(check: Check, text: &str) -> Option<u8> {
+    let text = Text::from_bytes(text.as_bytes()).ok()?;
+    check.character(&text)
 }
 
 fn run_table(rt: &HostRuntime, name: &str, check: Check, table: &[(&str, u8)]) -> io::Result<()> {
     for (text, wanted) in table {
         let got = told(check, text);
-        let verdict = if got == *wanted { "right" } else { "WRONG" };
-        let shown = char::from(got);
+        let verdict = if got == Some(*wanted) {
+            "right"
+        } else {
+            "WRONG"
+        };
+        let shown = got.map_or('?', char::from);
         println!(rt; "{name} {text}: {shown} {verdict}")?;
     }
     Ok(())

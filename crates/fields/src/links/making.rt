@@ -1,9 +1,10 @@
 // Making links and reading them.
-ghost use Rattle.std.specs.Prelude.{◌≡◌, [], ◌∷◌, ◌++◌, length, if◌then◌else◌, ◌==◌};
-ghost use Rattle.fields.specs.Counts.{most_links, LinksBelow};
+ghost use Rattle.std.specs.Prelude.{◌≡◌, [], ◌∷◌, ◌++◌, false, length, if◌then◌else◌, ◌==◌, is_ok, Err};
+ghost use Rattle.fields.specs.Counts.{most_links, is_link, LinksBelow};
 ghost use Rattle.fields.specs.Records.{seen_links, link_taken};
 
-use super::{LAST_LINK, Links, MOST_LINKS};
+use super::{LAST_LINK, LinkFault, Links};
+use fixedvec::FixedVec;
 
 impl Links {
     // A field without links is not linked.
@@ -11,40 +12,33 @@ impl Links {
         ensures { seen_links result ≡ [] }
     {
         Links {
-            numbers: [0; MOST_LINKS],
-            len: 0,
+            numbers: FixedVec::new(0),
         }
     }
 
-    // One link more, behind the others. Tells whether it was taken: a fifth is not, nor a number that no string has.
-    pub fn push(&mut self, number: u8) -> bool
-        ensures taken { result ≡ link_taken (seen_links self.old) number }
-        ensures after { seen_links self.new ≡ (if result then seen_links self.old ++ number ∷ [] else seen_links self.old) }
+    // One link more, behind the others: a fifth is not taken, nor a number that no string has.
+    pub fn push(&mut self, number: u8) -> Result<(), LinkFault>
+        ensures taken { is_ok result ≡ link_taken (seen_links self.old) number }
+        ensures after { seen_links self.new ≡ (if link_taken (seen_links self.old) number then seen_links self.old ++ number ∷ [] else seen_links self.old) }
+        ensures no_string { result ≡ Err LinkFault.NoString → is_link number ≡ false }
+        ensures fifth { result ≡ Err LinkFault.Fifth → length (seen_links self.old) ≡ most_links }
     {
-        let n = self.len;
-        if n >= MOST_LINKS || number < 1 || number > LAST_LINK {
-            return false;
+        if !matches!(number, 1..=LAST_LINK) {
+            return Err(LinkFault::NoString);
         }
-        let mut numbers = self.numbers;
-        numbers[n] = number;
-        *self = Links {
-            numbers,
-            len: n + 1,
-        };
-        true
+        self.numbers.push(number).map_err(|_| LinkFault::Fifth)
     }
 
     pub(crate) fn is_empty(&self) -> bool
         ensures { result ≡ (length (seen_links self.now) == 0) }
     {
-        self.len == 0
+        self.numbers.is_empty()
     }
 
     pub(crate) fn as_slice(&self) -> &[u8]
         ensures numbers { result.now ≡ seen_links self.now }
         ensures admitted { LinksBelow result.now (length result.now) }
     {
-        let n = self.len;
-        &self.numbers[0..n]
+        self.numbers.as_slice()
     }
 }

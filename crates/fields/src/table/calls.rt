@@ -1,10 +1,11 @@
 // What commands do to the field table.
-ghost use Rattle.std.specs.Prelude.{◌≡◌, map, length};
+ghost use Rattle.std.specs.Prelude.{◌≡◌, map, length, Option};
 ghost use Rattle.texts.specs.Contents.{contents};
 ghost use Rattle.fields.specs.Counts.{text_fields, bar_fields};
-ghost use Rattle.fields.specs.Records.{seen_format, seen_field};
-ghost use Rattle.fields.specs.Tables.{seen_fields, blank_table, place_of, Answered};
+ghost use Rattle.fields.specs.Records.{Slot, seen_format, seen_field};
+ghost use Rattle.fields.specs.Tables.{seen_fields, blank_table, place_of, Answered, Updated};
 ghost use Rattle.fields.specs.Calls.{replaced, replace_refusal, retexted, text_refusal};
+ghost use Rattle.fields.specs.declared.fault.FieldFault.{FieldFault};
 
 use super::{BAR_FIELDS, FieldName, Fields, TEXT_FIELDS};
 use crate::fault::FieldFault;
@@ -16,12 +17,10 @@ use texts::text::Text;
 fn place(number: u8, count: usize) -> Result<usize, FieldFault>
     ensures { result ≡ place_of count number }
 {
-    let n = usize::from(number);
-    if n >= 1 && n <= count {
-        Ok(n - 1)
-    } else {
-        Err(FieldFault::NoFormat)
-    }
+    usize::from(number)
+        .checked_sub(1)
+        .filter(|i| *i < count)
+        .ok_or(FieldFault::NoFormat)
 }
 
 impl Fields {
@@ -52,35 +51,34 @@ impl Fields {
         &self.bars
     }
 
+    // Has the field of a name updated; a name without a field has no format.
+    fn update<F: FnOnce(&mut Field) -> Result<(), FieldFault>>(
+        &mut self,
+        name: FieldName,
+        change: F,
+    ) -> Result<(), FieldFault>
+        requires { F.IsAlwaysCallable change }
+        ensures { (why : Slot → Option FieldFault) (done : Slot → Slot)
+            → ((x y : _) (r : _) → F.post change x r y → Answered (why (seen_field x.now)) r (seen_field x.now) (seen_field y.now) (done (seen_field x.now)))
+            → Updated why done name result (seen_fields self.old) (seen_fields self.new) }
+    {
+        match name {
+            FieldName::Text(n) => change(&mut self.texts[place(n, TEXT_FIELDS)?]),
+            FieldName::Bar(n) => change(&mut self.bars[place(n, BAR_FIELDS)?]),
+        }
+    }
+
     // A field's new format, with its text; nothing of what the field was stays.
     pub fn replace(&mut self, name: FieldName, format: Format, text: Text) -> Result<(), FieldFault>
         ensures { Answered (replace_refusal name (seen_format format) (contents text)) result (seen_fields self.old) (seen_fields self.new) (replaced name (seen_format format) (contents text) (seen_fields self.old)) }
     {
-        match name {
-            FieldName::Text(n) => {
-                let i = place(n, TEXT_FIELDS)?;
-                self.texts[i].replace(format, text)
-            }
-            FieldName::Bar(n) => {
-                let i = place(n, BAR_FIELDS)?;
-                self.bars[i].replace(format, text)
-            }
-        }
+        self.update(name, |field| field.replace(format, text))
     }
 
     // Another text for a field.
     pub fn set_text(&mut self, name: FieldName, text: Text) -> Result<(), FieldFault>
         ensures { Answered (text_refusal name (contents text) (seen_fields self.old)) result (seen_fields self.old) (seen_fields self.new) (retexted name (contents text) (seen_fields self.old)) }
     {
-        match name {
-            FieldName::Text(n) => {
-                let i = place(n, TEXT_FIELDS)?;
-                self.texts[i].set_text(text)
-            }
-            FieldName::Bar(n) => {
-                let i = place(n, BAR_FIELDS)?;
-                self.bars[i].set_text(text)
-            }
-        }
+        self.update(name, |field| field.set_text(text))
     }
 }

@@ -3,7 +3,7 @@ ghost use Rattle.std.specs.Prelude.{◌≡◌, ◌-◌, [], map, None, slice_ind
 ghost use Rattle.texts.specs.Contents.{contents};
 ghost use Rattle.texts.specs.Joining.{Fits};
 ghost use Rattle.fields.specs.Records.{seen_links, seen_field};
-ghost use Rattle.fields.specs.Tables.{seen_fields, some_slot, any_slot, refusal_of, Answered};
+ghost use Rattle.fields.specs.Tables.{seen_fields, refusal_of, Answered};
 ghost use Rattle.fields.specs.Linking.{joined_text, too_long, outside_if_fits, linked_if_fits, linked, link_refusal};
 
 use super::Fields;
@@ -16,12 +16,8 @@ use texts::text::Text;
 fn string(strings: &[Text], number: u8) -> Text
     ensures { contents result ≡ slice_index_or (map contents strings.now) (number - 1) [] }
 {
-    let i = usize::from(number).saturating_sub(1);
-    if i < strings.len() {
-        strings[i]
-    } else {
-        Text::empty()
-    }
+    let place = usize::from(number).saturating_sub(1);
+    strings.get(place).copied().unwrap_or_else(Text::empty)
 }
 
 // The strings that links name, joined in their order; none where that is too long for a text.
@@ -40,10 +36,8 @@ impl Field {
     fn joins_too_long(&self, strings: &[Text]) -> bool
         ensures { result ≡ too_long (map contents strings.now) (seen_field self.now) }
     {
-        let Some(format) = self.format else {
-            return false;
-        };
-        joined(strings, &format.links).is_none()
+        self.format
+            .is_some_and(|format| joined(strings, &format.links).is_none())
     }
 
     // The field's joined text has a character outside the set of its check.
@@ -53,10 +47,7 @@ impl Field {
         let Some(format) = self.format else {
             return false;
         };
-        match joined(strings, &format.links) {
-            Some(text) => !format.check.admits(text.as_bytes()),
-            None => false,
-        }
+        joined(strings, &format.links).is_some_and(|text| !format.check.admits(text.as_bytes()))
     }
 
     // A linked field's text becomes its joined text.
@@ -75,57 +66,15 @@ impl Field {
     }
 }
 
-fn some_too_long(fields: &[Field], strings: &[Text]) -> bool
-    ensures { result ≡ some_slot (too_long (map contents strings.now)) (map seen_field fields.now) }
-{
-    for f in fields {
-        if f.joins_too_long(strings) {
-            return true;
-        }
-    }
-    false
-}
-
-fn some_outside(fields: &[Field], strings: &[Text]) -> bool
-    ensures { result ≡ some_slot (outside_if_fits (map contents strings.now)) (map seen_field fields.now) }
-{
-    for f in fields {
-        if f.joins_outside(strings) {
-            return true;
-        }
-    }
-    false
-}
-
-fn link_all(fields: &mut [Field], strings: &[Text])
-    ensures { map seen_field fields.new ≡ map (linked_if_fits (map contents strings.now)) (map seen_field fields.old) }
-{
-    for f in fields.iter_mut() {
-        f.link(strings);
-    }
-}
-
 impl Fields {
-    fn any_too_long(&self, strings: &[Text]) -> bool
-        ensures { result ≡ any_slot (too_long (map contents strings.now)) (seen_fields self.now) }
-    {
-        some_too_long(&self.texts, strings) || some_too_long(&self.bars, strings)
-    }
-
-    fn any_outside(&self, strings: &[Text]) -> bool
-        ensures { result ≡ any_slot (outside_if_fits (map contents strings.now)) (seen_fields self.now) }
-    {
-        some_outside(&self.texts, strings) || some_outside(&self.bars, strings)
-    }
-
     // Why the strings are refused, if they are.
     fn test_links(&self, strings: &[Text]) -> Result<(), FieldFault>
         ensures { refusal_of result ≡ link_refusal (map contents strings.now) (seen_fields self.now) }
     {
-        if self.any_too_long(strings) {
+        if self.any(|f| f.joins_too_long(strings)) {
             return Err(FieldFault::JoinedTooLong);
         }
-        if self.any_outside(strings) {
+        if self.any(|f| f.joins_outside(strings)) {
             return Err(FieldFault::OutsideCheck);
         }
         Ok(())
@@ -135,17 +84,14 @@ impl Fields {
     fn link_fields(&mut self, strings: &[Text])
         ensures { link_refusal (map contents strings.now) (seen_fields self.old) ≡ None → seen_fields self.new ≡ linked (map contents strings.now) (seen_fields self.old) }
     {
-        link_all(&mut self.texts, strings);
-        link_all(&mut self.bars, strings);
+        self.each(|f| f.link(strings));
     }
 
     // The link strings sent: all fields are tested before any is changed.
     pub fn set_links(&mut self, strings: &[Text]) -> Result<(), FieldFault>
         ensures { Answered (link_refusal (map contents strings.now) (seen_fields self.old)) result (seen_fields self.old) (seen_fields self.new) (linked (map contents strings.now) (seen_fields self.old)) }
     {
-        if let Err(fault) = self.test_links(strings) {
-            return Err(fault);
-        }
+        self.test_links(strings)?;
         self.link_fields(strings);
         Ok(())
     }

@@ -4,54 +4,48 @@ ghost use Rattle.jobgroups.specs.Commands.{plain_of};
 ghost use Rattle.label.specs.Actions.{action_of};
 ghost use Rattle.label.specs.Labels.{new_label, seen_label, seen_action, Acted};
 
-use super::Label;
+use super::{Label, Sizes};
 use crate::action::{Action, action_of};
-use crate::drawings::Drawings;
+use crate::drawings::no_drawings;
 use crate::fault::LabelFault;
+use crate::lists::strings_of;
 use fields::table::Fields;
 use jobgroups::command::Command;
 
-// The sizes of a label at making, in tenths of a millimetre.
-const NEW_PITCH: u16 = 520;
-
-const NEW_WIDTH: u16 = 540;
-
-const NEW_LENGTH: u16 = 500;
+// The sizes of a label at making.
+const NEW_SIZES: Sizes = Sizes {
+    pitch: 520,
+    width: 540,
+    length: 500,
+};
 
 impl Label {
     pub fn new() -> Label
         ensures { seen_label result ≡ new_label }
     {
         Label {
-            pitch: NEW_PITCH,
-            width: NEW_WIDTH,
-            length: NEW_LENGTH,
+            sizes: NEW_SIZES,
             fields: Fields::blank(),
-            drawings: Drawings::none(),
+            drawings: no_drawings(),
         }
     }
 
-    fn apply(&mut self, action: Action) -> Result<(), LabelFault>
-        ensures { Acted (Some (seen_action action)) result (seen_label self.old) (seen_label self.new) }
+    fn apply(&mut self, action: Action<'_>) -> Result<(), LabelFault>
+        ensures { Acted (Some (seen_action action.entry)) result (seen_label self.old) (seen_label self.new) }
     {
         match action {
-            Action::SetSize {
-                pitch,
-                width,
-                length,
-            } => {
-                self.pitch = pitch;
-                self.width = width;
-                self.length = length;
-            }
+            Action::SetSize(sizes) => self.sizes = sizes,
             Action::Clear => {
                 self.fields.clear_texts();
-                self.drawings = Drawings::none();
+                self.drawings = no_drawings();
             }
             Action::SetFormat { name, format, text } => self.fields.replace(name, format, text)?,
             Action::SetText { name, text } => self.fields.set_text(name, text)?,
-            Action::SetLinks(strings) => self.fields.set_links(&strings)?,
-            Action::Draw(drawing) => self.drawings.push(drawing)?,
+            Action::SetLinks(bytes) => self.fields.set_links(&strings_of(bytes))?,
+            Action::Draw(drawing) => self
+                .drawings
+                .push(drawing)
+                .map_err(|_| LabelFault::TooManyDrawings)?,
         }
         Ok(())
     }

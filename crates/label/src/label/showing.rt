@@ -14,7 +14,7 @@ impl Label {
     pub fn pitch(&self) -> u16
         ensures { result ≡ (seen_label self.now).pitch }
     {
-        self.pitch
+        self.sizes.pitch
     }
 
     // Every text is turned by its field's step.
@@ -37,6 +37,7 @@ impl Label {
         ensures answer { result ≡ (if too_short dots.old then Err ShortBuffer else Ok tt) }
         ensures bytes { dots.new ≡ shown (label_picture (seen_label self.now)) dots.old }
     {
-        picture::draw(self.drawings.as_slice(), self.width, self.length, dots)
+        let sizes = self.sizes;
+        picture::draw(self.drawings.as_slice(), sizes.width, sizes.length, dots)
     }
 }

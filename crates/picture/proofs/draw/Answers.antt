@@ -1,5 +1,6 @@
 -- White, then every drawing, then the cut: every dot is known, and so is every byte.
-use Rattle.std.proofs.Common.{◌≡◌, ◌≤◌, false, ltb, length, sym, refl, ◌∙◌, arith, rules}
+use Rattle.std.proofs.Common.{◌≡◌, ℕ, ◌≤◌, ◌++◌, false, ltb, length, drop, sym, ap, ◌∙◌, arith}
+use Rattle.std.proofs.lemmas.List.{length-append, length-drop, get_or_append_left}
 use Rattle.std.proofs.lemmas.Bool.{cond-false, le-ltb}
 use Rattle.picture.specs.Picture.{white, picture}
 use Rattle.picture.proofs.Rows.{redrawn_then}
@@ -9,14 +10,15 @@ use Rattle.picture.proofs.draw.Goals as goal
 pub returns : goal.returns
 returns c =
     let dots = c.args.dots.now in
-    let long : 21600 ≤ length dots = omega arith in
+    let long : 21600 ≤ length dots = c.in-Some.ensures.cases.enough in
     let not : ltb (length dots) 21600 ≡ false = le-ltb (length dots) 21600 long in
-    let same : length c.cut.new.dots ≡ length dots = search rules in
+    let same : length c.cut.new.dots ≡ 21600 = omega (arith, length-append {A = ℕ}, length-drop {A = ℕ}) in
     record {
       answer = sym (cond-false _ _ _ not);
       bytes =
-          whole (picture white c.args.drawings.now c.args.label_width c.args.label_length) dots c.cut.new.dots 21600 refl long same
-          (λ k. (c.type_inv.dots k).fits)
-          (redrawn_then _ _ _ _ _ (redrawn_then _ _ _ _ _ c.whiten.ensures c.draw_all.ensures) c.cut.ensures)
+          ap (λ bs. bs ++ drop 21600 dots)
+          (whole (picture white c.args.drawings.now c.args.label_width c.args.label_length) c.in-Some.front.now c.cut.new.dots same
+          (λ k lt. let at = get_or_append_left c.cut.new.dots (drop 21600 dots) 0 k (omega arith) in omega (arith, (c.type_inv.dots k).fits, at))
+          (redrawn_then _ _ _ _ _ (redrawn_then _ _ _ _ _ c.whiten.ensures c.draw_all.ensures) c.cut.ensures))
           ∙ sym (cond-false _ _ _ not);
     }

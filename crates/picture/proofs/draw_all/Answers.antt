@@ -1,6 +1,3 @@
-use Rattle.std.proofs.Common.{ap}
-use Rattle.std.proofs.lemmas.List.{take_all}
-use Rattle.picture.specs.Picture.{drawn}
 use Rattle.picture.proofs.Drawn.{drawn_more}
 use Rattle.picture.proofs.Rows.{redrawn_as, redrawn_then}
 use Rattle.picture.proofs.draw_all.Goals as goal
@@ -9,7 +6,3 @@ pub loop-drawing-preserved : goal.loop-drawing-preserved
 loop-drawing-preserved c =
     redrawn_as _ _ _ _ (λ r k dot hr hk. drawn_more c.args.drawings.now c.loop-drawing.drawing-index _ r k dot c.loop-drawing-test.true)
     (redrawn_then _ _ _ _ _ c.loop-drawing.invariant c.draw_one.ensures)
-
-pub returns : goal.returns
-returns c =
-    redrawn_as _ _ _ _ (λ r k dot hr hk. ap (λ ds. drawn ds r k dot) (take_all c.loop-drawing.drawing-index c.args.drawings.now c.loop-drawing-test.false)) c.loop-drawing.invariant

@@ -20,7 +20,7 @@ impl Roll {
     pub fn new(size: u64) -> Result<Roll, Refusal>
         ensures { MatchResult result (λ p. (between 1 largest_roll size ≡ true) × (roll_paper p ≡ unused size) × (p.size ≡ size)) (λ e. (between 1 largest_roll size ≡ false) × (e ≡ ShortBuffer)) }
     {
-        if size < 1 || size > LARGEST_ROLL {
+        if !(1..=LARGEST_ROLL).contains(&size) {
             return Err(Refusal::ShortBuffer);
         }
         Ok(Roll {

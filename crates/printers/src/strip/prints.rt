@@ -37,16 +37,6 @@ impl Strip {
     }
 }
 
-// Writes a line at a place; all other bytes stay.
-fn write_at(bytes: &mut Vec<u8>, at: usize, line: &[u8])
-    requires { at + length line.now ≤ vec_len bytes.old }
-    ensures bytes { bytes.new.items ≡ written bytes.old.items at line.now }
-    ensures len { vec_len bytes.new ≡ vec_len bytes.old }
-{
-    let to = at + line.len();
-    bytes[at..to].copy_from_slice(line);
-}
-
 impl Printer for Strip {
     ghost paper = { strip_paper };
 
@@ -61,11 +51,7 @@ impl Printer for Strip {
     }
 
     fn left(&self) -> u64 {
-        if !self.closed && self.bytes.len() - self.used >= LONGEST_LINE {
-            1
-        } else {
-            0
-        }
+        u64::from(!self.closed && self.bytes.len() - self.used >= LONGEST_LINE)
     }
 
     // The line stands behind the lines of this load; all other bytes stay, and all stay at a refusal.
@@ -79,9 +65,9 @@ impl Printer for Strip {
             return Err(PrinterFault::OutOfStock);
         }
         self.tally.note(line)?;
-        let from = self.used;
-        write_at(&mut self.bytes, from, line);
-        self.used = from + line.len();
+        let to = self.used + line.len();
+        self.bytes[self.used..to].copy_from_slice(line);
+        self.used = to;
         Ok(())
     }
 

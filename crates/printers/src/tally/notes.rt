@@ -1,11 +1,10 @@
 // What a tally notes and tells.
-ghost use Rattle.std.specs.Prelude.{◌≡◌, ◌≤◌, [], length};
-ghost use Rattle.limits.specs.Limits.{longest_line};
+ghost use Rattle.std.specs.Prelude.{◌≡◌, [], length};
 ghost use Rattle.printers.specs.Tallies.{latest_of, note_answer, taken_after, latest_after};
 
 use crate::fault::PrinterFault;
 use crate::tally::Tally;
-use limits::sizes::LONGEST_LINE;
+use fixedvec::FixedVec;
 
 impl Tally {
     // Nothing taken, and an empty latest line.
@@ -15,8 +14,7 @@ impl Tally {
     {
         Tally {
             taken: 0,
-            len: 0,
-            line: [0; LONGEST_LINE],
+            latest: FixedVec::new(0),
         }
     }
 
@@ -30,20 +28,7 @@ impl Tally {
     pub fn latest(&self) -> &[u8]
         ensures { result.now ≡ latest_of self.now }
     {
-        let len = self.len;
-        &self.line[0..len]
-    }
-
-    // The line becomes the latest.
-    fn keep(&mut self, line: &[u8])
-        requires { length line.now ≤ longest_line }
-        ensures taken { self.new.taken ≡ self.old.taken }
-        ensures latest { latest_of self.new ≡ line.now }
-    {
-        let len = line.len();
-        let part = &mut self.line[0..len];
-        part.copy_from_slice(line);
-        self.len = len;
+        self.latest.as_slice()
     }
 
     // Notes one more tag with its line; a line that no tag can have is refused, and a refusal changes nothing.
@@ -52,11 +37,10 @@ impl Tally {
         ensures taken { self.new.taken ≡ taken_after result self.old.taken }
         ensures latest { latest_of self.new ≡ latest_after result (latest_of self.old) line.now }
     {
-        let len = line.len();
-        if len < 1 || len > LONGEST_LINE || self.taken >= u64::MAX {
+        if line.is_empty() || self.taken == u64::MAX {
             return Err(PrinterFault::OutOfStock);
         }
-        self.keep(line);
+        self.latest = FixedVec::from_slice(0, line).or(Err(PrinterFault::OutOfStock))?;
         self.taken += 1;
         Ok(())
     }

@@ -3,76 +3,70 @@ ghost use Rattle.std.specs.Prelude.{◌≡◌, length};
 ghost use Rattle.stores.specs.Forms.{loaded_of, filled_with};
 ghost use Rattle.std.proofs.Common.{rules};
 
-use crate::answers::{Loaded, StoreFault};
-use crate::cache::ReadCache;
-use crate::cache::page::Page;
-use crate::cache::witness::Witness;
+use crate::answers::{LoadFault, StoreFault};
+use crate::cache::{Copied, ReadCache};
+use crate::parts::fill;
 use crate::store::FormStore;
+use fixedvec::FixedVec;
+use limits::sizes::LONGEST_FORM;
 
 impl<S: FormStore> ReadCache<S> {
     // The store below, with no form read yet.
     pub fn new(below: S) -> ReadCache<S>
-        ensures { result.page.below ≡ below }
+        ensures { result.below ≡ below }
     {
-        let page = Page::new(below);
-        ReadCache { page, known: None }
+        ReadCache { below, copy: None }
     }
 
     // Takes the layer off.
     pub fn into_below(self) -> S
-        ensures { result ≡ self.page.below }
+        ensures { result ≡ self.below }
     {
-        let ReadCache { page, known: _ } = self;
-        page.into_below()
+        let ReadCache { below, copy: _ } = self;
+        below
     }
 
     // Fills `out` from below, and keeps the form.
-    fn reread(&mut self, number: u8, out: &mut [u8]) -> Loaded
-        ensures answer { result ≡ loaded_of ((S.FormStore.forms self.old.page.below).at number) (length out.old) }
-        ensures buffer { out.new ≡ filled_with ((S.FormStore.forms self.old.page.below).at number) out.old }
-        ensures same { S.FormStore.forms self.new.page.below ≡ S.FormStore.forms self.old.page.below }
+    fn reread(&mut self, number: u8, out: &mut [u8]) -> Result<usize, LoadFault>
+        ensures answer { result ≡ loaded_of ((S.FormStore.forms self.old.below).at number) (length out.old) }
+        ensures buffer { out.new ≡ filled_with ((S.FormStore.forms self.old.below).at number) out.old }
+        ensures same { S.FormStore.forms self.new.below ≡ S.FormStore.forms self.old.below }
     {
-        self.known = None;
-        if !self.page.load(number) {
-            return Loaded::Nothing;
-        }
-        self.known = Some(Witness::new(&self.page));
-        self.page.fill(out)
+        let mut bytes = [0; LONGEST_FORM];
+        let len = self.below.read(number, &mut bytes)?;
+        let form = FixedVec::of_front(bytes, len);
+        self.copy = Some(Copied { number, form });
+        fill(form.as_slice(), out)
     }
 }
 
 impl<S: FormStore> FormStore for ReadCache<S> {
-    ghost forms = { λ c. S.FormStore.forms c.page.below };
+    ghost forms = { λ c. S.FormStore.forms c.below };
 
     ghost lawful = { Prim.search rules };
 
     fn size(&self, number: u8) -> Option<usize> {
-        self.page.below().size(number)
+        self.below.size(number)
     }
 
-    fn read(&mut self, number: u8, out: &mut [u8]) -> Loaded {
-        let known = self.known.take();
-        if let Some(witness) = known {
-            if self.page.number() == number {
-                witness.spend();
-                self.known = Some(Witness::new(&self.page));
-                return self.page.fill(out);
-            }
+    fn read(&mut self, number: u8, out: &mut [u8]) -> Result<usize, LoadFault> {
+        match &self.copy {
+            Some(copy) if copy.number == number => fill(copy.form.as_slice(), out),
+            _ => self.reread(number, out),
         }
-        self.reread(number, out)
     }
 
     fn longest(&self) -> usize {
-        self.page.below().longest()
+        self.below.longest()
     }
 
     fn put(&mut self, number: u8, form: &[u8]) -> Result<(), StoreFault> {
-        self.known = None; // the copy may be the form that is replaced
-        self.page.put(number, form)
+        self.copy = None; // it may be of the form that is replaced
+        self.below.put(number, form)
     }
 
     fn empty(&mut self) {
-        self.known = None; // the copied form goes too
-        self.page.empty();
+        self.copy = None; // the copied form goes too
+        self.below.empty();
     }
 }

@@ -1,96 +1,75 @@
 // A packed store as a form store.
-ghost use Rattle.std.specs.Prelude.{◌≡◌, ℕ, ◌+◌, ◌≤◌, true, List, length, Some, None, MatchOption};
-ghost use Rattle.stores.specs.Forms.{numbered, others, stored, vacant};
-ghost use Rattle.stores.specs.Packed.{packed_forms, packed_longest, packed_total, used, size_at};
+ghost use Rattle.std.specs.Prelude.{◌≡◌, ◌+◌, ◌≤◌, length, Some, None, MatchOption};
+ghost use Rattle.stores.specs.Forms.{others, stored, vacant};
+ghost use Rattle.stores.specs.Packed.{packed_longest, packed_total};
+ghost use Rattle.stores.specs.PackedStores.{packed_of};
 ghost use Rattle.std.proofs.Common.{arith};
 ghost use Rattle.stores.specs.PackedForms.{packed_lawful};
 
-use crate::answers::{Loaded, StoreFault};
-use crate::packed::bytes::{extent_of, splice};
+use crate::answers::{LoadFault, StoreFault};
+use crate::packed::bytes::splice;
+use crate::packed::lens::Lens;
 use crate::packed::{LONGEST, PackedStore, TOTAL};
-use crate::parts::{NUMBERS, fill, is_number, place_of};
+use crate::parts::{Number, admitted, fill};
 use crate::store::FormStore;
-
-// The lengths of no form at all.
-fn no_lens() -> [Option<usize>; NUMBERS]
-    ensures forms { (b : List ℕ) → packed_forms result b ≡ vacant packed_longest packed_total }
-    ensures twenty { length result ≡ 20 }
-    ensures within { used result ≤ packed_total }
-    ensures short { (k : ℕ) → size_at result k ≤ packed_longest }
-{
-    [None; NUMBERS]
-}
 
 impl PackedStore {
     // A store with no form.
     pub fn new() -> PackedStore
-        ensures { packed_forms result.lens result.bytes ≡ vacant packed_longest packed_total }
+        ensures { packed_of result ≡ vacant packed_longest packed_total }
     {
         PackedStore {
-            lens: no_lens(),
+            lens: Lens::none(),
             bytes: [0; TOTAL],
         }
     }
 
     // The form under a number.
+    #[tactic(auto, using(crate::specs::PackedForms::packed_nowhere, crate::specs::PackedForms::packed_part, crate::specs::PackedForms::packed_gone))]
     fn form(&self, number: u8) -> Option<&[u8]>
-        ensures { MatchOption result ((packed_forms self.now.lens self.now.bytes).at number ≡ None) (λ x. (packed_forms self.now.lens self.now.bytes).at number ≡ Some x.now) }
+        ensures { MatchOption result ((packed_of self.now).at number ≡ None) (λ x. (packed_of self.now).at number ≡ Some x.now) }
     {
-        let Some(place) = place_of(number) else {
-            return None;
-        };
-        let at = extent_of(&self.lens, place);
-        let start = at.start;
-        let end = at.end;
-        let len = self.lens[place];
-        match len {
-            Some(_) => Some(&self.bytes[start..end]),
-            None => None,
-        }
+        let number = Number::new(number)?;
+        self.lens.len(number)?;
+        let at = self.lens.extent(number);
+        Some(&self.bytes[at.start..at.end])
     }
 
     // The bytes of all forms but one.
-    fn others(&self, number: u8) -> usize
-        requires { numbered number ≡ true }
-        ensures is { result ≡ others (packed_forms self.now.lens self.now.bytes) number }
+    #[tactic(auto, using(crate::specs::PackedForms::packed_rest))]
+    fn others(&self, number: Number) -> usize
+        ensures is { result ≡ others (packed_of self.now) number.value }
         ensures within { result ≤ packed_total }
     {
-        let place = number as usize - 1;
-        let at = extent_of(&self.lens, place);
+        let at = self.lens.extent(number);
         at.all - (at.end - at.start)
     }
 
     // Puts a form in its place among the others, which move where its length asks for it.
-    fn replace(&mut self, number: u8, form: &[u8])
-        requires number { numbered number ≡ true }
+    #[tactic(auto, using(crate::specs::PackedForms::packed_rest, crate::specs::PackedForms::packed_stored))]
+    fn replace(&mut self, number: Number, form: &[u8])
         requires short { length form.now ≤ packed_longest }
-        requires room { others (packed_forms self.old.lens self.old.bytes) number + length form.now ≤ packed_total }
-        ensures { packed_forms self.new.lens self.new.bytes ≡ stored (packed_forms self.old.lens self.old.bytes) number form.now }
+        requires room { others (packed_of self.old) number.value + length form.now ≤ packed_total }
+        ensures { packed_of self.new ≡ stored (packed_of self.old) number.value form.now }
     {
-        let place = number as usize - 1;
-        let at = extent_of(&self.lens, place);
+        let at = self.lens.extent(number);
         splice(&mut self.bytes, at, form);
-        self.lens[place] = Some(form.len());
+        self.lens.set(number, form.len());
     }
 }
 
 impl FormStore for PackedStore {
-    ghost forms = { λ s. packed_forms s.lens s.bytes };
+    ghost forms = { packed_of };
 
-    ghost lawful = { λ s. packed_lawful s.lens s.bytes s.twenty (omega arith) s.short };
+    ghost lawful = { λ s. packed_lawful s.lens.entries s.bytes s.lens.twenty (omega (arith, s.sized, s.lens.within)) s.lens.short };
 
     fn size(&self, number: u8) -> Option<usize> {
-        match self.form(number) {
-            Some(form) => Some(form.len()),
-            None => None,
-        }
+        self.form(number).map(|form| form.len())
     }
 
-    fn read(&mut self, number: u8, out: &mut [u8]) -> Loaded {
-        match self.form(number) {
-            Some(form) => fill(form, out),
-            None => Loaded::Nothing,
-        }
+    fn read(&mut self, number: u8, out: &mut [u8]) -> Result<usize, LoadFault> {
+        let form = self.form(number).ok_or(LoadFault::NoForm)?;
+        fill(form, out)
     }
 
     fn longest(&self) -> usize {
@@ -98,9 +77,7 @@ impl FormStore for PackedStore {
     }
 
     fn put(&mut self, number: u8, form: &[u8]) -> Result<(), StoreFault> {
-        if !is_number(number) || form.len() > LONGEST {
-            return Err(StoreFault::TooLong);
-        }
+        let number = admitted(number, form.len(), LONGEST)?;
         if self.others(number) + form.len() > TOTAL {
             return Err(StoreFault::Full);
         }
@@ -109,6 +86,6 @@ impl FormStore for PackedStore {
     }
 
     fn empty(&mut self) {
-        self.lens = no_lens();
+        self.lens = Lens::none();
     }
 }

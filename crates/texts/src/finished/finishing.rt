@@ -9,17 +9,18 @@ ghost use Rattle.texts.specs.Printed.{printed};
 use super::Finished;
 use crate::checks::Check;
 use crate::text::Text;
-use limits::sizes::LONGEST_FINISHED;
+use fixedvec::FixedVec;
 
 // The unbroken run of zeros at the front becomes spaces, within the first `places`.
 fn blank_zeros(text: &mut [u8], places: usize)
     requires { places ≤ length text.old }
     ensures { text.new ≡ blanked places text.old }
 {
-    let mut i = 0;
-    while i < places && text[i] == b'0' {
-        text[i] = b' ';
-        i += 1;
+    for b in &mut text[..places] {
+        if *b != b'0' {
+            return;
+        }
+        *b = b' ';
     }
 }
 
@@ -27,10 +28,8 @@ fn blank_zeros(text: &mut [u8], places: usize)
 fn suppress_zeros(text: &mut [u8], kept: u8)
     ensures { text.new ≡ suppressed (Some kept) text.old }
 {
-    let n = text.len();
-    let zz = usize::from(kept);
-    if zz <= n {
-        blank_zeros(text, n - zz);
+    if let Some(places) = text.len().checked_sub(usize::from(kept)) {
+        blank_zeros(text, places);
     }
 }
 
@@ -39,12 +38,9 @@ impl Finished {
         ensures value { result.now ≡ printed self.now }
         ensures short { length result.now ≤ longest_finished }
     {
-        let n = self.len;
-        &self.bytes[0..n]
+        self.bytes.as_slice()
     }
-}
 
-impl Finished {
     // The same with its zeros suppressed.
     fn suppressed(self, kept: Option<u8>) -> Finished
         ensures { printed result ≡ suppressed kept (printed self) }
@@ -52,10 +48,12 @@ impl Finished {
         let Some(zz) = kept else {
             return self;
         };
-        let mut bytes = self.bytes;
-        let n = self.len;
-        suppress_zeros(&mut bytes[0..n], zz);
-        Finished { bytes, len: n }
+        let n = self.bytes.len();
+        let mut cells = self.bytes.to_array();
+        suppress_zeros(&mut cells[..n], zz);
+        Finished {
+            bytes: FixedVec::of_front(cells, n),
+        }
     }
 }
 
@@ -64,16 +62,11 @@ impl Text {
     fn checked(&self, check: Check) -> Finished
         ensures { printed result ≡ contents self.now ++ check_character check (contents self.now) }
     {
-        let text = self.as_bytes();
-        let n = text.len();
-        let mut bytes = [0; LONGEST_FINISHED];
-        let front = &mut bytes[0..n];
-        front.copy_from_slice(text);
-        let Some(b) = check.character(self) else {
-            return Finished { bytes, len: n };
-        };
-        bytes[n] = b;
-        Finished { bytes, len: n + 1 }
+        let mut bytes = FixedVec::from_slice(0, self.as_bytes()).unwrap();
+        if let Some(b) = check.character(self) {
+            bytes.push(b).unwrap();
+        }
+        Finished { bytes }
     }
 
     // What is printed of the text: its check character behind it, then zero suppression that keeps `kept` places.

@@ -19,11 +19,8 @@ loop-why-preserved g c =
     let on : is_last c.step-turn.result ≡ false = sym c.is_last.ensures ∙ c.if-is_last.false in
     again _ _ _ _ _ c.new-station.ensures _ _ _ _ _ _ c.loop-why.invariant.2 c.step-turn.ensures _ c.loop-why.invariant.1 _ _ c.tags-tags.ensures c.place_after-at.ensures on
 
-pub returns-in-Err : goal.returns-in-Err
-returns-in-Err g c = record {
-  tags = tt;
-  accounted = (_, booked _ _ _ _ _ c.new-station.ensures _ _ _ _ _ _ c.loop-why.invariant.2 c.step-turn.ensures _ c.loop-why.invariant.1);
-}
+pub returns-in-Err-clause-accounted : goal.returns-in-Err-clause-accounted
+returns-in-Err-clause-accounted g c = (_, booked _ _ _ _ _ c.new-station.ensures _ _ _ _ _ _ c.loop-why.invariant.2 c.step-turn.ensures _ c.loop-why.invariant.1)
 
 pub returns-then-is_last : goal.returns-then-is_last
 returns-then-is_last g c =

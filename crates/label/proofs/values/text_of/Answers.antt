@@ -1,11 +1,21 @@
-use Rattle.std.proofs.Common.{sym, ◌∙◌}
+use Rattle.std.proofs.Common.{◌≡◌, Ok, Err, [], Result, sym, refl, ap, ◌∙◌, rules}
+use Rattle.texts.specs.Contents.{contents, Made}
+use Rattle.texts.specs.declared.text.Text.{Text}
+use Rattle.texts.specs.declared.text.TextFault.{TextFault}
+use Rattle.label.specs.Values.{text_of}
 use Rattle.label.proofs.Texts.{a_text, no_text}
 use Rattle.label.proofs.values.text_of.Goals as goal
 
-pub returns-in-Ok : goal.returns-in-Ok
-returns-in-Ok c =
-    let made = c.in-Ok.ensures in
-    made.0 ∙ sym (a_text c.args.bytes.now made.1 made.2)
-
-pub returns-in-Err : goal.returns-in-Err
-returns-in-Err c = c.empty.ensures ∙ sym (no_text c.args.bytes.now c.in-Err.field-0 c.in-Err.ensures)
+pub returns : goal.returns
+returns c = go c.from_bytes.result refl
+  where
+    go : (r : Result Text TextFault) → c.from_bytes.result ≡ r → contents c.unwrap_or_else.result ≡ text_of c.args.bytes.now
+    go (Ok x) e =
+        let is = rw e at c.unwrap_or_else.ensures in
+        let made : Made c.args.bytes.now (Ok x) = rw e at c.from_bytes.ensures in
+        ap contents is ∙ made.0 ∙ sym (a_text c.args.bytes.now made.1 made.2)
+    go (Err d) e =
+        let is = rw e at c.unwrap_or_else.ensures in
+        let made : Made c.args.bytes.now (Err d) = rw e at c.from_bytes.ensures in
+        let none : contents c.unwrap_or_else.result ≡ [] = search rules in
+        none ∙ sym (no_text c.args.bytes.now d made)

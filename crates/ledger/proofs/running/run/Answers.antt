@@ -11,9 +11,6 @@ use Rattle.ledger.proofs.Reading.{reader}
 use Rattle.ledger.proofs.Runs.{whole_run, throughout_so, answered, at_end}
 use Rattle.ledger.proofs.running.run.Goals as goal
 
-pub loop-e-init : goal.loop-e-init
-loop-e-init g c = (omega arith, refl, (refl, refl, refl), refl, refl)
-
 pub loop-e-preserved : goal.loop-e-preserved
 loop-e-preserved g c =
     let log = c.loop-e.log in

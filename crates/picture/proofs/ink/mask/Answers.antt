@@ -10,6 +10,6 @@ before from to j = grind (arith, nat_tests)
 pub returns : goal.returns
 returns c =
     λ j h.
-    bit_less (get_or dots_from c.args.from 0) (get_or dots_from c.args.to 0) j
+    bit_less (get_or dots_from c.args.from 0) (get_or dots_from c.args.to 0) j (omega arith)
     ∙ ap₂ (λ x y. cond x false y) (bit_from c.args.to j c.requires.1 h) (bit_from c.args.from j c.requires.0 h)
     ∙ before c.args.from c.args.to j

@@ -6,18 +6,18 @@ use Rattle.fields.specs.declared.fault.FieldFault.TheVariants.{OutsideCheck}
 use Rattle.fields.proofs.Tests.{refusal_fits}
 use Rattle.fields.proofs.table.Fields.test_links.Goals as goal
 
-pub returns-then-any_outside : goal.returns-then-any_outside
-returns-then-any_outside c =
+pub returns-then-any-2 : goal.returns-then-any-2
+returns-then-any-2 c =
     let strings = map contents c.args.strings.now in
     let t = seen_fields c.args.self.now in
-    let fits : any_slot (too_long strings) t ≡ false = search rules in
-    let yes : any_slot (outside_if_fits strings) t ≡ true = search rules in
+    let fits : any_slot (too_long strings) t ≡ false = sym (c.any.ensures (too_long strings) (λ x r h. search rules)) ∙ c.if-any.false in
+    let yes : any_slot (outside_if_fits strings) t ≡ true = sym (c.any-2.ensures (outside_if_fits strings) (λ x r h. search rules)) ∙ c.if-any-2.true in
     sym (refusal_fits strings t fits ∙ ap (λ b. cond b (Some OutsideCheck) None) yes)
 
 pub returns : goal.returns
 returns c =
     let strings = map contents c.args.strings.now in
     let t = seen_fields c.args.self.now in
-    let fits : any_slot (too_long strings) t ≡ false = search rules in
-    let no : any_slot (outside_if_fits strings) t ≡ false = search rules in
+    let fits : any_slot (too_long strings) t ≡ false = sym (c.any.ensures (too_long strings) (λ x r h. search rules)) ∙ c.if-any.false in
+    let no : any_slot (outside_if_fits strings) t ≡ false = sym (c.any-2.ensures (outside_if_fits strings) (λ x r h. search rules)) ∙ c.if-any-2.false in
     sym (refusal_fits strings t fits ∙ ap (λ b. cond b (Some OutsideCheck) None) no)

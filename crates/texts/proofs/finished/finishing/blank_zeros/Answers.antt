@@ -1,5 +1,5 @@
-use Rattle.std.proofs.Common.{◌≡◌, ℕ, zero, suc, ◌+◌, ◌-◌, ◌<◌, false, cond, eqb, List, [], ◌∷◌, ◌++◌, length, get_or, take, drop, set, sym, refl, ap, ◌∙◌, arith, length-set, rules}
-use Rattle.std.proofs.lemmas.List.{append_assoc, take-append-drop, take_more_set, drop-set-lt, drop_more}
+use Rattle.std.proofs.Common.{◌≡◌, ℕ, zero, suc, ◌+◌, ◌-◌, ◌<◌, Bool, true, false, cond, eqb, List, [], ◌∷◌, ◌++◌, length, get_or, take, drop, set, sym, refl, ap, ◌∙◌, arith, rules}
+use Rattle.std.proofs.lemmas.List.{append_assoc, length-take-le, set-get_or, take-append-drop, take_more_set, drop-set-lt, drop_more}
 use Rattle.std.proofs.lemmas.Bool.Decides.{nat_tests}
 use Rattle.texts.specs.Finishing.{blanked}
 use Rattle.texts.proofs.finished.finishing.blank_zeros.Goals as goal
@@ -21,27 +21,40 @@ goes n t i lt more zero-there =
     ∙ ap (λ l. take i t ++ (32 ∷ blanked (n - (i + 1)) l)) (drop-set-lt (i + 1) t i 32 (omega arith))
     ∙ ap (λ l. take i t ++ l) (sym left)
 
-pub loop-i-preserved : goal.loop-i-preserved
-loop-i-preserved c =
-    let t = c.loop-i.text in
-    let i = c.loop-i.i in
-    let lt : i < length t = omega arith in
-    let there : get_or t i 0 ≡ 48 = search rules in
-    (goes c.args.places t i lt (search rules) there ∙ c.loop-i.invariant.0, omega arith, omega (arith, length-set t i 32))
+-- what lies behind the places stays
+behind : (n : ℕ) (t : List ℕ) → blanked n (take n t) ++ drop n t ≡ blanked n t
+behind zero t = refl
+behind (suc n) [] = refl
+behind (suc n) (x ∷ t) = here (eqb x 48) (behind n t)
+  where
+    here : (b : Bool) → blanked n (take n t) ++ drop n t ≡ blanked n t → cond b (32 ∷ blanked n (take n t)) (x ∷ take n t) ++ drop n t ≡ cond b (32 ∷ blanked n t) (x ∷ t)
+    here true h = ap (λ l. 32 ∷ l) h
+    here false h = ap (λ l. x ∷ l) (take-append-drop n t)
 
-pub returns-else-text-i-eq48 : goal.returns-else-text-i-eq48
-returns-else-text-i-eq48 c =
-    let t = c.loop-i.text in
-    let i = c.loop-i.i in
+pub loop-b-preserved : goal.loop-b-preserved
+loop-b-preserved c =
+    let t = c.loop-b.b-items in
+    let i = c.loop-b.b-index in
+    let long = length-take-le c.args.places c.args.text.now c.requires in
+    let lt : i < length t = omega arith in
+    goes c.args.places t i lt (omega arith) (search rules) ∙ c.loop-b.invariant
+
+pub returns-then-b-ne48 : goal.returns-then-b-ne48
+returns-then-b-ne48 c =
+    let t = c.loop-b.b-items in
+    let i = c.loop-b.b-index in
     let k = c.args.places - i in
     let lt : i < length t = omega arith in
     let no : eqb (get_or t i 0) 48 ≡ false = grind (arith, nat_tests) in
     let same : blanked k (drop i t) ≡ drop i t = ap (blanked k) (drop_more t i 0 lt) ∙ stops k (get_or t i 0) (drop (i + 1) t) no ∙ sym (drop_more t i 0 lt) in
-    sym (sym c.loop-i.invariant.0 ∙ ap (λ l. take i t ++ l) same ∙ take-append-drop i t)
+    let front = sym (sym c.loop-b.invariant ∙ ap (λ l. take i t ++ l) same ∙ take-append-drop i t) in
+    ap (λ l. l ++ drop c.args.places c.args.text.now) (set-get_or t i 0 ∙ front) ∙ behind c.args.places c.args.text.now
 
-pub returns-after-loop-i : goal.returns-after-loop-i
-returns-after-loop-i c =
-    let t = c.loop-i.text in
-    let i = c.loop-i.i in
+pub returns : goal.returns
+returns c =
+    let t = c.loop-b.b-items in
+    let i = c.loop-b.b-index in
+    let long = length-take-le c.args.places c.args.text.now c.requires in
     let none : c.args.places - i ≡ 0 = omega arith in
-    sym (sym c.loop-i.invariant.0 ∙ ap (λ k. take i t ++ blanked k (drop i t)) none ∙ take-append-drop i t)
+    let front = sym (sym c.loop-b.invariant ∙ ap (λ k. take i t ++ blanked k (drop i t)) none ∙ take-append-drop i t) in
+    ap (λ l. l ++ drop c.args.places c.args.text.now) front ∙ behind c.args.places c.args.text.now
