@@ -2,6 +2,7 @@
 use faults::Refusal;
 use limits::sizes::LAST_FORM;
 use std::io;
+use std::io::Write;
 use stores::answers::{LoadFault, StoreFault};
 use stores::packed::PackedStore;
 use stores::quota::Quota;
@@ -101,9 +102,7 @@ fn read<S: FormStore>(rt: &HostRuntime, store: &mut S, number: u8, room: usize) 
         Err(LoadFault::NoForm) => print!(rt; "  read {number}: nothing ")?,
         Err(LoadFault::NoRoom) => print!(rt; "  read {number}: no room ")?,
     }
-    for b in &out {
-        print!(rt; "{}", char::from(*b))?;
-    }
+    rt.stdout().write_all(&out)?;
     println!(rt; "")
 }
 

@@ -1,4 +1,5 @@
-// A vector of at most N items that lie in the value itself: it allocates nothing, and is copied as a whole.
+// A vector of at most N items that lie in the value itself: it allocates nothing and, other than the library's of that kind, is copied as
+// a whole.
 #![tactic(auto)]
 
 ghost use Rattle.std.specs.Prelude.{◌≡◌, ◌<◌, ◌≤◌, ⊤, [], ◌∷◌, length, take, ◌==◌, MatchResult};
@@ -109,6 +110,8 @@ impl<T: Copy, const N: usize> FixedVec<T, N> {
         }
     }
 
+    // Kept so: a slice lent for writing would need a clause on what it leaves, which gets no proof beside ghost fields, and a closure would
+    // be a requires of a public call. So whoever writes over the items takes the array and gives it back by of_front.
     // An array that begins with the items, so that they can be written over; what stands behind them means nothing.
     pub fn to_array(self) -> [T; N]
         ensures { take (length (items self)) result ≡ items self }

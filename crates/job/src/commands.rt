@@ -67,7 +67,7 @@ fn bar_format<'a>(cursor: &mut Cursor<'a>) -> Result<BarFormat<'a>, Wrong>
     })
 }
 
-// Kept so: one function for both texts would take the field's reader as a closure, for two lines.
+// Kept so: one function for both texts would speak of a field's digits and limit in place of the two rows of the table.
 fn bar_text<'a>(cursor: &mut Cursor<'a>) -> Result<FieldText<'a>, Wrong>
     ensures { Takes field_text_slots result cursor.old cursor.new (groups_at (parts_of Rb) []) }
 {

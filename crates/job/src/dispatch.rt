@@ -48,6 +48,7 @@ pub(crate) fn command_at<'a>(
 ) -> Result<Command<'a>, Wrong>
     ensures { plain result ≡ command_at letters cursor.old.body.now cursor.old.at }
 {
+    // Kept so: by `?` the command is moved once more; read_on has the measure.
     let command = command(letters, cursor);
     if command.is_ok() {
         cursor.end()?;

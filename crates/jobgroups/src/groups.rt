@@ -169,24 +169,19 @@ pub fn bar_height<'a>(cursor: &mut Cursor<'a>) -> Result<Height<'a>, Wrong>
 }
 
 // ;aaaa,bbbb,cccc,dddd of a line or a rectangle
-#[tactic(auto, unfolding(crate::specs::Table::line_ends))]
+#[tactic(auto, unfolding(crate::specs::Table::line_ends, crate::specs::Table::point))]
 pub fn line_ends<'a>(cursor: &mut Cursor<'a>) -> Result<Ends<'a>, Wrong>
     ensures { Takes ends_slots result cursor.old cursor.new (group_at line_ends []) }
 {
     cursor.byte(b';')?;
+    let from = point_at(cursor)?;
+    cursor.byte(b',')?;
     let x = cursor.number(4, 0, 539)?;
     cursor.byte(b',')?;
-    let y = cursor.number(4, 0, 499)?;
-    cursor.byte(b',')?;
-    let last_x = cursor.number(4, 0, 539)?;
-    cursor.byte(b',')?;
-    let last_y = last_y_at(cursor, x, y, last_x)?;
+    let y = last_y_at(cursor, from.x, from.y, x)?;
     Ok(Ends {
-        from: Point { x, y },
-        to: Point {
-            x: last_x,
-            y: last_y,
-        },
+        from,
+        to: Point { x, y },
     })
 }
 

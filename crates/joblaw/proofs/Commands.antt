@@ -12,7 +12,7 @@ use Rattle.job.specs.Reading.{before, fault, next_escape, open_at, begin_at, win
 use Rattle.joblaw.specs.Located.{shift_plain, moved, shifted, Whole, Anywhere}
 use Rattle.joblaw.proofs.Bodies.{body_moves}
 
-open_is : (job : List ℕ) (at : ℕ) → length job ≤ longest_job → at ≤ length job → open_at job at ≡ Ok tt
+pub open_is : (job : List ℕ) (at : ℕ) → length job ≤ longest_job → at ≤ length job → open_at job at ≡ Ok tt
 open_is job at short within = cond-false _ _ _ (le-ltb longest_job (length job) short) ∙ cond-false _ _ _ (le-ltb (length job) at within)
 
 begin_is : (job : List ℕ) (at : ℕ) → at < length job → get_or job at 0 ≡ 27 → begin_at job at ≡ Ok tt
@@ -23,7 +23,7 @@ front_step : (t : Bool) (b : ℕ) (xs ys : List ℕ) → cond t 0 (1 + before b 
 front_step true b xs ys lt h = refl
 front_step false b xs ys lt h = ap (λ m. 1 + m) (h (omega arith))
 
-before_front : (b : ℕ) (xs ys : List ℕ) → before b xs < length xs → before b (xs ++ ys) ≡ before b xs
+pub before_front : (b : ℕ) (xs ys : List ℕ) → before b xs < length xs → before b (xs ++ ys) ≡ before b xs
 before_front b [] ys lt = absurd (omega arith)
 before_front b (x ∷ xs) ys lt = front_step (eqb x b) b xs ys lt (before_front b xs ys)
 

@@ -3,15 +3,13 @@ use jobgroups::command::*;
 use jobgroups::letters::Letters;
 use jobparts::part::{Part, Source};
 use std::io;
+use std::io::Write;
 
 // The bytes of an accepted part can all be printed.
-// Kept so: a Display of a part would have the same loop, and a type more.
 fn text(rt: &HostRuntime, bytes: &[u8]) -> io::Result<()> {
-    for b in bytes {
-        let c = char::from(*b);
-        print!(rt; "{c}")?;
-    }
-    println!(rt; "")
+    let mut out = rt.stdout();
+    out.write_all(bytes)?;
+    out.write_all(b"\n")
 }
 
 fn show(rt: &HostRuntime, name: &str, part: Part<'_>) -> io::Result<()> {

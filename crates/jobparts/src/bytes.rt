@@ -16,9 +16,8 @@ pub(crate) fn is_of_kind(b: u8, kind: Kind) -> bool
     }
 }
 
-// Kept so: these look at any bytes, also where there is no cursor.
-
 // Whether a byte stands at the place.
+// Kept so: this and rest_at look at any bytes, also where there is no cursor.
 pub fn stands_at(body: &[u8], at: usize, b: u8) -> bool
     ensures { result ≡ stands (nat_eq b) body.now at }
 {

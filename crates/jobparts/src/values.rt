@@ -5,7 +5,7 @@ ghost use Rattle.jobparts.specs.Values.{number_of};
 use crate::bytes::first;
 
 // The number that digits write; a numeric part has ten at most.
-// Kept so: a fold's closure would have to require that each sum fits, which the loop shows.
+// Kept so: a fold has to add so that it can not fail, and would hide that ten digits always fit.
 #[tactic(auto, unfolding(crate::specs::Values::number_of))]
 pub fn number_of(bytes: &[u8]) -> u64
     ensures { result ≡ number_of bytes.now }

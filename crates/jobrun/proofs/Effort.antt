@@ -8,7 +8,8 @@ use Rattle.station.specs.Steps.{print_fault, PrintedIn, one_less}
 use Rattle.station.specs.Views.{Doing, idle, saving, owing, View, made, owed_in, owed_by}
 use Rattle.ledger.specs.Ledgers.{opened}
 use Rattle.ledger.specs.Laws.{Accounted}
-use Rattle.ledger.proofs.Basics.{never, at_most, more_than}
+use Rattle.ledger.proofs.Basics.{never}
+use Rattle.std.proofs.lemmas.Bool.{leb-false, leb-true}
 use Rattle.ledger.proofs.Bond.{Ties}
 use Rattle.ledger.proofs.Reading.{reader}
 use Rattle.ledger.proofs.Runs.{whole_run, at_end}
@@ -27,8 +28,8 @@ one_fewer : (left size : ℕ) → 0 < left → owed_in (one_less left size) + 1 
 one_fewer left size pos = go (leb left 1) refl
   where
     go : (b : Bool) → leb left 1 ≡ b → owed_in (cond b idle (owing (left - 1) size)) + 1 ≡ left
-    go true h = omega (arith, at_most left 1 h)
-    go false h = omega (arith, more_than left 1 h)
+    go true h = omega (arith, leb-true left 1 h)
+    go false h = omega (arith, leb-false left 1 h)
 
 -- a tag taken is owed no more
 tag_fewer : (m u : View) → ((left size : ℕ) → m.doing ≡ owing left size → 0 < left) → PrintedIn m.doing m u → owed_by u + 1 ≡ owed_by m

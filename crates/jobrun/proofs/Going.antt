@@ -1,19 +1,18 @@
 -- A job goes on: unless it ends the job, a command call tells a place behind its own.
-use Rattle.std.proofs.Common.{◌≡◌, ℕ, ◌+◌, ◌<◌, ◌≤◌, Bool, true, false, cond, eqb, ltb, List, length, get_or, take, Ok, Err, Result, sym, refl, ap, ◌∙◌, subst, arith}
+use Rattle.std.proofs.Common.{◌≡◌, ℕ, ◌<◌, ◌≤◌, Bool, true, false, cond, List, length, Ok, Err, Result, sym, refl, ap, ◌∙◌, subst, arith}
 use Rattle.faults.specs.declared.Fault.{Fault}
 use Rattle.faults.specs.declared.Refusal.TheVariants.{ShortBuffer}
-use Rattle.limits.specs.Limits.{longest_job}
-use Rattle.jobparts.specs.Kinds.{stands}
-use Rattle.jobparts.specs.declared.part.Wrong.{Wrong}
-use Rattle.jobparts.specs.declared.part.ReadRefusal.TheVariants.{OutOfBounds, AtEnd, NoEscape, NoEnding}
+use Rattle.jobparts.specs.declared.part.ReadRefusal.TheVariants.{OutOfBounds, AtEnd, NoEscape, NoEnding, UnknownLetters, WrongByte, NotAdmitted}
+use Rattle.jobparts.specs.declared.part.ReadRefusal.{ReadRefusal}
+use Rattle.job.proofs.Onward.{ended, onward}
 use Rattle.jobgroups.specs.Commands.{Plain}
-use Rattle.job.specs.Reading.{fault_of, answer_of, next_of, then_read, fault, next_escape, placed, body_at, before, window, read_at as reader_at}
+use Rattle.job.specs.Reading.{fault_of, answer_of, next_of, fault, read_at as reader_at}
 use Rattle.job.specs.declared.fault.ReadFault.{ReadFault}
 use Rattle.station.specs.Reads.{read_at, next_at, out_of_bounds}
 use Rattle.station.specs.Steps.{commanded, on_read, concluded, short_buffers, fault_at}
 use Rattle.station.specs.Views.{View}
 use Rattle.station.specs.declared.blame.Blame.{Blame}
-use Rattle.ledger.proofs.Basics.{never, not_ok, ok_inj, is_not_below}
+use Rattle.ledger.proofs.Basics.{never, not_ok, ok_inj}
 use Rattle.jobrun.specs.Turns.{ends}
 
 pub record Onward (job : List ℕ) (at next : ℕ) : Type 0 where
@@ -28,37 +27,24 @@ abbrev over : Result (Plain × ℕ) ReadFault → Bool
 over (Ok x) = false
 over (Err e) = ends (fault_of e)
 
+over_is : (r : Result (Plain × ℕ) ReadFault) → over r ≡ ended (answer_of r)
+over_is (Ok x) = refl
+over_is (Err e) = go e.refusal
+  where
+    go : (r : ReadRefusal) → over (Err (fault r e.place e.next)) ≡ ended (answer_of (Err (fault r e.place e.next)))
+    go OutOfBounds = refl
+    go AtEnd = refl
+    go NoEscape = refl
+    go NoEnding = refl
+    go UnknownLetters = refl
+    go WrongByte = refl
+    go NotAdmitted = refl
+
 module _ (job : List ℕ) (at : ℕ) where
-  placed_on : (end : ℕ) (w : Result Plain Wrong) → at < end + 2 → at < next_of (placed (end + 2) w)
-  placed_on end (Ok p) lt = lt
-  placed_on end (Err w) lt = lt
-
-  ending_on : (b : Bool) (k : ℕ) (f : ℕ → Result Plain Wrong)
-      → at < next_of (then_read (cond b (Ok (at + k)) (Err (fault NoEnding at (next_escape job at)))) (λ end. placed (end + 2) (f end)))
-  ending_on true k f = placed_on (at + k) (f (at + k)) (omega arith)
-  ending_on false k f = omega arith
-
-  abbrev begin_by : Bool → Bool → Result (Unit {0}) ReadFault
-  begin_by a b = cond a (cond b (Ok tt) (Err (fault NoEscape at (next_escape job at)))) (Err (fault AtEnd at at))
-
-  begin_on : (a b : Bool) (r : Result (Plain × ℕ) ReadFault) → at < next_of r → over (then_read (begin_by a b) (λ _. r)) ≡ false → at < next_of (then_read (begin_by a b) (λ _. r))
-  begin_on true true r lt h = lt
-  begin_on true false r lt h = omega arith
-  begin_on false b r lt h = never (sym h)
-
-  abbrev open_by : Bool → Bool → Result (Unit {0}) ReadFault
-  open_by a b = cond a (Err (fault OutOfBounds at at)) (cond b (Err (fault OutOfBounds at at)) (Ok tt))
-
-  open_on : (a b : Bool) → ltb (length job) at ≡ b → (r : Result (Plain × ℕ) ReadFault) → (over r ≡ false → at < next_of r) → over (then_read (open_by a b) (λ _. r)) ≡ false
-      → Onward job at (next_of (then_read (open_by a b) (λ _. r)))
-  open_on true b q r g h = never (sym h)
-  open_on false true q r g h = never (sym h)
-  open_on false false q r g h = record { within = is_not_below (length job) at q; on = g h }
-
   reading_on : over (reader_at job at) ≡ false → Onward job at (next_of (reader_at job at))
-  reading_on = open_on (ltb longest_job (length job)) (ltb (length job) at) refl _
-      (begin_on (ltb at (length job)) (eqb (get_or job at 0) 27) _
-      (ending_on (stands (eqb 0) (window job at) (before 10 (window job at) + 1)) (before 10 (window job at)) (λ end. body_at (take end job) at)))
+  reading_on h =
+      let o = onward job at (sym h ∙ over_is (reader_at job at)) in
+      record { within = omega (arith, o.0); on = o.1 }
 
   module _ (v : View) (answer work : ℕ) where
     -- an accepted command

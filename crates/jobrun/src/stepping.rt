@@ -27,7 +27,7 @@ fn is_out(fault: &Fault) -> bool
     fault.refusal == Refusal::OutOfStock
 }
 
-// Kept so: the buffers are the caller's, as the call from C lends them, and one that is too short is refused.
+// Kept so: the buffers are the caller's, as the call from C lends them; a struct of two `&mut` would be made anew at each call.
 
 // The command at a place.
 fn send<S: FormStore, P: Printer, R1: CountingRule, R2: CountingRule>(

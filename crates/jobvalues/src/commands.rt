@@ -7,7 +7,6 @@ ghost use Rattle.jobvalues.specs.Meaning.{is_label, text_check_of, bar_check_of}
 use jobgroups::command::Command;
 use jobgroups::letters::Letters;
 use jobparts::part::Part;
-use jobparts::values::number_of;
 use texts::checks::Check;
 
 // The letters of a command.
@@ -56,7 +55,7 @@ pub fn is_label_command(letters: Letters) -> bool
 pub fn text_check<'a>(figure: Option<Part<'a>>) -> Check
     ensures { result ≡ text_check_of (option_slot figure.entry) }
 {
-    match figure.map(|part| number_of(part.bytes)) {
+    match figure.map(|part| part.number()) {
         None => Check::NoCheck,
         Some(0) => Check::Modulus10,
         Some(_) => Check::Modulus43,
@@ -67,7 +66,7 @@ pub fn text_check<'a>(figure: Option<Part<'a>>) -> Check
 pub fn bar_check<'a>(check: Part<'a>) -> Check
     ensures { result ≡ bar_check_of (slot_of check.entry) }
 {
-    match number_of(check.bytes) {
+    match check.number() {
         3 => Check::Modulus43,
         _ => Check::NoCheck,
     }

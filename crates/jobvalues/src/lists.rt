@@ -5,6 +5,8 @@ ghost use Rattle.jobvalues.specs.Meaning.{link_of, string_of};
 use jobparts::bytes::{first, rest_at};
 use jobparts::values::number_of;
 
+// Kept so: these two answer one element of a list; a label takes all of them in one pass.
+
 // The number of the link string that a field joins at a place of its list, counted from 0.
 pub fn link_of(links: &[u8], k: usize) -> Option<u64>
     ensures { result ≡ link_of k links.now }

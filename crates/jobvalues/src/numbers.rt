@@ -16,11 +16,11 @@ const TEN_DIGITS: u64 = 10_000_000_000;
 pub fn number<'a>(part: Part<'a>) -> u64
     ensures { result ≡ number_of part.entry.bytes.now }
 {
-    number_of(part.bytes)
+    part.number()
 }
 
 // The ten digits behind a sign.
-// Kept so: the label's step stops at ten nines. The two differ on bytes that are no digits, and each has its own promise.
+// Kept so: the label's step stops at ten nines. The two differ on bytes that are no digits, and both are promises that have to stand.
 fn step_size(bytes: &[u8]) -> u64
     ensures { result ≡ step_size bytes.now }
 {
@@ -47,9 +47,9 @@ pub fn step<'a>(part: Option<Part<'a>>) -> i64
 }
 
 // How many places zero suppression leaves; nothing where it is left out.
-// Kept so: the label keeps the two digits as a u8, while here any number of a part is told.
+// Kept so: the label takes two digits as a u8, and this promises any number of a part, which has to stand.
 pub fn zeros<'a>(part: Option<Part<'a>>) -> Option<u64>
     ensures { result ≡ zeros_option (option_slot part.entry) }
 {
-    part.map(|places| number_of(places.bytes))
+    part.map(|places| places.number())
 }

@@ -19,6 +19,7 @@ pub(crate) fn links_of(bytes: &[u8]) -> Links
     links
 }
 
+// Kept so: over iter_mut().zip(..) the loop can not name what was written.
 // The eight link strings; one that was not sent is empty. (Not inlined, so that other commands do not make room for them.)
 #[inline(never)]
 pub(crate) fn strings_of(bytes: &[u8]) -> [Text; 8]

@@ -7,9 +7,9 @@ ghost use Rattle.label.specs.Actions.{corner, line, line_drawing, area_drawing};
 use crate::values::figure;
 use jobgroups::command::{Area, Line};
 use jobparts::bytes::stands_at;
-use jobparts::values::number_of;
 use picture::drawing::{Drawing, Point};
 
+// Kept so: a From stands with one of its two types, and both are of lower crates; so for all that this crate reads of a command.
 fn point_of(sent: &jobgroups::command::Point<'_>) -> Point
     ensures { result ≡ corner (point_slots sent.now) }
 {
@@ -47,7 +47,7 @@ pub(crate) fn line_drawing(sent: &Line<'_>) -> Drawing
     let corner = point_of(&sent.ends.from);
     let opposite = point_of(&sent.ends.to);
     let thick = figure(sent.shape.dots.bytes);
-    if number_of(sent.shape.kind.bytes) == 0 {
+    if sent.shape.kind.number() == 0 {
         line_between(corner, opposite, thick)
     } else {
         Drawing::Rectangle {

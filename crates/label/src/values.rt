@@ -34,7 +34,7 @@ pub fn small(bytes: &[u8]) -> u8
 }
 
 // A sign and ten digits.
-// Kept so: jobvalues::numbers::step_of takes the rest of ten digits. The two differ on bytes that are no digits, and each has its own promise.
+// Kept so: jobvalues::numbers::step_of takes the rest of ten digits. The two differ on bytes that are no digits, and both are promises that have to stand.
 fn signed(bytes: &[u8]) -> i64
     ensures { result ≡ signed bytes.now }
 {

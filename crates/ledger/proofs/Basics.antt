@@ -1,31 +1,10 @@
 -- Small facts that several proofs share: of tests on numbers, of options and of results.
-use Rattle.std.proofs.Common.{◌≡◌, ℕ, ◌<◌, ◌≤◌, true, false, eqb, ltb, leb, Some, None, Ok, Err, Option, Result, ap, arith}
+use Rattle.std.proofs.Common.{◌≡◌, ℕ, ◌<◌, true, false, eqb, Some, None, Ok, Err, Option, Result, ap, arith}
 use Rattle.std.proofs.lemmas.Bool.Decides.{nat_tests}
 
 -- ---- tests on numbers
-pub is_zero_lem : (n : ℕ) → eqb n 0 ≡ true → n ≡ 0
-is_zero_lem n e = grind (arith, nat_tests)
-
 pub above_zero : (n : ℕ) → eqb n 0 ≡ false → 0 < n
 above_zero n e = grind (arith, nat_tests)
-
-pub at_most : (n m : ℕ) → leb n m ≡ true → n ≤ m
-at_most n m e = grind (arith, nat_tests)
-
-pub more_than : (n m : ℕ) → leb n m ≡ false → m < n
-more_than n m e = grind (arith, nat_tests)
-
-pub below : (n m : ℕ) → n < m → ltb n m ≡ true
-below n m h = grind (arith, nat_tests)
-
-pub is_below : (n m : ℕ) → ltb n m ≡ true → n < m
-is_below n m h = grind (arith, nat_tests)
-
-pub not_below : (n m : ℕ) → m ≤ n → ltb n m ≡ false
-not_below n m h = grind (arith, nat_tests)
-
-pub is_not_below : (n m : ℕ) → ltb n m ≡ false → m ≤ n
-is_not_below n m h = grind (arith, nat_tests)
 
 -- ---- what cannot be
 pub never : {A : Type 0} → false ≡ true → A

@@ -26,7 +26,8 @@ use Rattle.ledger.specs.Entries.{Entries, table_now, entries_after, entries_afte
 use Rattle.ledger.specs.Ledgers.{Form, given, filed, Ledger, opened, feed, noted, label_noted, issue_noted, end_noted, recall_noted, reset_noted, read_noted, print_noted, actions_of, with_fields, with_forms, with_draft}
 use Rattle.ledger.specs.Laws.{most_owed}
 use Rattle.ledger.proofs.Readers.{Reader}
-use Rattle.ledger.proofs.Basics.{is_zero_lem, above_zero, at_most, more_than, ok_inj, not_ok, ok_of}
+use Rattle.ledger.proofs.Basics.{above_zero, ok_inj, not_ok, ok_of}
+use Rattle.std.proofs.lemmas.Bool.{eqb-true, leb-false, leb-true}
 use Rattle.ledger.proofs.Fields.{act_all, fields_after, fields_after_all, fields_turned, fields_new}
 use Rattle.ledger.proofs.Saved.{Saved, joined, joined_push, read_action, actions_of_lem, issue_few, done_acts}
 use Rattle.ledger.proofs.Calls.{accepted_read}
@@ -132,7 +133,7 @@ module _ (r : Reader) (w w' : Wheels) (base : ℕ) where
   idle_issue l v u n at few h s o e = go (leb (v.ordered + n) most_ordered) refl e
     where
       ties : (b : Bool) → eqb n 0 ≡ b → Ties (cond b idle (owing n n)) l.saving l.draft n n
-      ties true z = (s, is_zero_lem n z)
+      ties true z = (s, eqb-true n 0 z)
       ties false z = (s, refl, refl, above_zero n z)
 
       after : leb (v.ordered + n) most_ordered ≡ true → Bound w w' base (issue_noted n l) (with_doing (owing_all n) (with_ordered (v.ordered + n) v))
@@ -144,7 +145,7 @@ module _ (r : Reader) (w w' : Wheels) (base : ℕ) where
         doing = ties (eqb n 0) refl;
         ordered = ap (λ (k : ℕ). k + n) h.ordered;
         few = few;
-        most = omega (arith, h.ordered, at_most (v.ordered + n) most_ordered b);
+        most = omega (arith, h.ordered, leb-true (v.ordered + n) most_ordered b);
         tags = omega (arith, h.tags, o);
         taken = h.taken;
         latest = h.latest;
@@ -200,7 +201,7 @@ module _ (r : Reader) (w w' : Wheels) (base : ℕ) where
               t.1,
               ap (λ (x : List ℕ). x ++ whole) t.2 ∙ sym (joined_push l.draft whole),
               All-push Saved l.draft whole t.3 s,
-              omega (arith, length-append d whole, at_most (length d + length whole) longest_form b),
+              omega (arith, length-append d whole, leb-true (length d + length whole) longest_form b),
             ))
         go false b e = not_ok e
 
@@ -263,8 +264,8 @@ module _ (r : Reader) (w w' : Wheels) (base : ℕ) where
   tied_print l v u left size h t p = subst⁻¹ (λ (y : View). Bound w w' base (print_noted w w' l) y) p.after after
     where
       ties : (b : Bool) → leb left 1 ≡ b → Ties (cond b idle (owing (left - 1) size)) l.saving l.draft (l.owed - 1) l.size
-      ties true z = (t.0, omega (arith, t.1, at_most left 1 z))
-      ties false z = (t.0, ap (λ (k : ℕ). k - 1) t.1, t.2, omega (arith, more_than left 1 z))
+      ties true z = (t.0, omega (arith, t.1, leb-true left 1 z))
+      ties false z = (t.0, ap (λ (k : ℕ). k - 1) t.1, t.2, omega (arith, leb-false left 1 z))
 
       after : Bound w w' base (print_noted w w' l) (printed v left size (taken_paper v.paper (tag_line v left size) u.paper.left))
       after = record {

@@ -11,10 +11,12 @@ use Rattle.jobparts.specs.declared.part.Wrong.{Wrong}
 use Rattle.jobgroups.specs.Commands.{Plain}
 use Rattle.job.specs.Reading.{before, fault, next_escape, open_at, begin_at, ending_at, then_read, placed, body_at, read_at}
 use Rattle.job.specs.declared.fault.ReadFault.{ReadFault}
-use Rattle.ledger.proofs.Basics.{below, is_below, not_below, is_not_below, never, not_none, not_ok, some_inj, ok_inj, ok_of, ok_from}
+use Rattle.ledger.proofs.Basics.{never, not_none, not_ok, some_inj, ok_inj, ok_of, ok_from}
+use Rattle.std.proofs.lemmas.Bool.{lt-ltb, ltb-false, ltb-true}
 use Rattle.joblaw.specs.Located.{shift_plain, moved}
 use Rattle.joblaw.proofs.Leaves.{order_moved}
 use Rattle.joblaw.proofs.Bodies.{body_moves}
+use Rattle.joblaw.proofs.Commands.{open_is, before_front as joined_before}
 
 abbrev same : Unit {0} → Unit {0}
 same u = u
@@ -37,11 +39,6 @@ module _ {X : Type 0} {E : Type 0} (sx : X → X) where
       go : (b : Bool) → ok_of (cond b r' s') ≡ option_map sx (ok_of (cond b r s))
       go true = h
       go false = k
-
-pub open_ok : (job : List ℕ) (at : ℕ) → length job ≤ longest_job → at ≤ length job → open_at job at ≡ Ok tt
-open_ok job at short within =
-    ap₂ (λ (a b : Bool). cond a (Err (fault OutOfBounds at at)) (cond b (Err (fault OutOfBounds at at)) (Ok tt)))
-    (not_below longest_job (length job) short) (not_below (length job) at within)
 
 -- ---- a job behind other bytes
 module _ (pre s : List ℕ) where
@@ -84,7 +81,7 @@ module _ (pre s : List ℕ) where
   read_shift short =
       let all : length (pre ++ s) ≡ length pre + length s = length-append pre s in
       then_read_lem same (shift_read (length pre)) (open_at (pre ++ s) (length pre)) (open_at s 0) _ _
-      (ap ok_of (open_ok (pre ++ s) (length pre) short (omega (arith, all))) ∙ sym (ap (λ (r : Result (Unit {0}) ReadFault). option_map same (ok_of r)) (open_ok s 0 (omega (arith, all, short)) (omega arith))))
+      (ap ok_of (open_is (pre ++ s) (length pre) short (omega (arith, all))) ∙ sym (ap (λ (r : Result (Unit {0}) ReadFault). option_map same (ok_of r)) (open_is s 0 (omega (arith, all, short)) (omega arith))))
       (λ _. then_read_lem same (shift_read (length pre)) (begin_at (pre ++ s) (length pre)) (begin_at s 0) _ _ begin_shift
       (λ _. then_read_lem (λ n. length pre + n) (shift_read (length pre)) (ending_at (pre ++ s) (length pre)) (ending_at s 0) _ _ ending_shift placed_shift))
 
@@ -101,7 +98,7 @@ stands_within : (f : ℕ → Bool) (xs : List ℕ) (at : ℕ) → stands f xs at
 stands_within f xs at h = go (ltb at (length xs)) refl h
   where
     go : (b : Bool) → ltb at (length xs) ≡ b → cond b (f (get_or xs at 0)) false ≡ true → at < length xs
-    go true e h = is_below at (length xs) e
+    go true e h = ltb-true at (length xs) e
     go false e h = never h
 
 abbrev feed : List ℕ → ℕ
@@ -149,7 +146,7 @@ read_known s c n e = opened (ltb longest_job (length s)) refl e
     opened : (b : Bool) → ltb longest_job (length s) ≡ b
         → then_read (cond b (Err (fault OutOfBounds 0 0)) (cond (ltb (length s) 0) (Err (fault OutOfBounds 0 0)) (Ok (tt {0})))) (λ _. then_read (begin_at s 0) (λ _. then_read (ending_at s 0) (λ end. placed (end + 2) (body_at (take end s) 0)))) ≡ Ok (c, n) → Known s c (feed s) × (n ≡ feed s + 2)
     opened true q e = not_ok e
-    opened false q e = within (is_not_below longest_job (length s) q) (ltb (length s) 0) e
+    opened false q e = within (ltb-false longest_job (length s) q) (ltb (length s) 0) e
 
 pub read_made : (s : List ℕ) (c : Plain) (i : ℕ) → Known s c i → read_at s 0 ≡ Ok (c, i + 2)
 read_made s c i k =
@@ -157,26 +154,17 @@ read_made s c i k =
     let long : length (take longest_command s) ≡ min longest_command (length s) = length-take longest_command s in
     let begin : begin_at s 0 ≡ Ok (tt {0}) =
     ap₂ (λ (a b : Bool). cond a (cond b (Ok (tt {0})) (Err (fault NoEscape 0 (next_escape s 0)))) (Err (fault AtEnd 0 0)))
-    (below 0 (length s) (omega (arith, some, long))) k.escape in
+    (lt-ltb 0 (length s) (omega (arith, some, long))) k.escape in
     let nul : stands (eqb 0) (take longest_command s) (feed s + 1) ≡ true = ap (λ (m : ℕ). stands (eqb 0) (take longest_command s) (m + 1)) k.line_feed ∙ k.nul in
     let z : 0 + feed s ≡ i = omega (arith, k.line_feed) in
     let ending : ending_at s 0 ≡ Ok i =
     ap (λ (b : Bool). cond b (Ok (0 + feed s)) (Err (fault NoEnding 0 (next_escape s 0)))) nul ∙ ap Ok z in
-    ap (λ (r : Result (Unit {0}) ReadFault). then_read r (λ _. then_read (begin_at s 0) (λ _. then_read (ending_at s 0) (λ end. placed (end + 2) (body_at (take end s) 0))))) (open_ok s 0 k.short (omega arith))
+    ap (λ (r : Result (Unit {0}) ReadFault). then_read r (λ _. then_read (begin_at s 0) (λ _. then_read (ending_at s 0) (λ end. placed (end + 2) (body_at (take end s) 0))))) (open_is s 0 k.short (omega arith))
     ∙ ap (λ (r : Result (Unit {0}) ReadFault). then_read r (λ _. then_read (ending_at s 0) (λ end. placed (end + 2) (body_at (take end s) 0)))) begin
     ∙ ap (λ (r : Result ℕ ReadFault). then_read r (λ end. placed (end + 2) (body_at (take end s) 0))) ending
     ∙ ap (placed (i + 2)) k.body
 
 -- ---- what stands behind a command does not matter
-before_append : (b : ℕ) (xs ys : List ℕ) → before b xs < length xs → before b (xs ++ ys) ≡ before b xs
-before_append b [] ys h = absurd (let z : ⊥ = omega (arith, h) in z)
-before_append b (x ∷ xs) ys h = go (eqb x b) h (before_append b xs ys)
-  where
-    go : (t : Bool) → cond t 0 (1 + before b xs) < length (x ∷ xs) → (before b xs < length xs → before b (xs ++ ys) ≡ before b xs)
-        → cond t 0 (1 + before b (xs ++ ys)) ≡ cond t 0 (1 + before b xs)
-    go true h again = refl
-    go false h again = ap (λ (n : ℕ). 1 + n) (again (omega (arith, h)))
-
 before_front : (b : ℕ) (xs ys : List ℕ) → before b (xs ++ ys) < length xs → before b (xs ++ ys) ≡ before b xs
 before_front b [] ys h = absurd (let z : ⊥ = omega (arith, h) in z)
 before_front b (x ∷ xs) ys h = go (eqb x b) h (before_front b xs ys)
@@ -189,7 +177,7 @@ before_front b (x ∷ xs) ys h = go (eqb x b) h (before_front b xs ys)
 stands_append : (f : ℕ → Bool) (xs ys : List ℕ) (at : ℕ) → at < length xs → stands f (xs ++ ys) at ≡ stands f xs at
 stands_append f xs ys at h =
     ap₂ (λ (b : Bool) (x : ℕ). cond b (f x) false)
-    (below at (length (xs ++ ys)) (omega (arith, h, length-append xs ys)) ∙ sym (below at (length xs) h)) (get_or-append xs ys 0 at h)
+    (lt-ltb at (length (xs ++ ys)) (omega (arith, h, length-append xs ys)) ∙ sym (lt-ltb at (length xs) h)) (get_or-append xs ys 0 at h)
 
 -- the front of a command and what stands behind it, within the longest command
 window_append : (w behind : List ℕ) → length w ≤ longest_command → take longest_command (w ++ behind) ≡ w ++ take (longest_command - length w) behind
@@ -214,7 +202,7 @@ module _ (w behind : List ℕ) (c : Plain) (i : ℕ) (exact : length w ≡ i + 2
       record {
         short = short;
         escape = ap (λ (b : ℕ). eqb b 27) (get_or-append w behind 0 0 (omega (arith, exact))) ∙ k.escape;
-        line_feed = ap (before 10) both ∙ before_append 10 w rest (omega (arith, exact, feed)) ∙ feed;
+        line_feed = ap (before 10) both ∙ joined_before 10 w rest (omega (arith, exact, feed)) ∙ feed;
         nul = ap (λ (x : List ℕ). stands (eqb 0) x (i + 1)) both ∙ stands_append (eqb 0) w rest (i + 1) (omega (arith, exact)) ∙ nul;
         body = ap (λ (x : List ℕ). body_at x 0) (take-append-le i w behind (omega (arith, exact))) ∙ k.body;
       }
@@ -266,7 +254,7 @@ open_known job at {X} f x e = go (ltb longest_job (length job)) (ltb (length job
         → then_read (cond a (Err (fault OutOfBounds at at)) (cond b (Err (fault OutOfBounds at at)) (Ok (tt {0})))) f ≡ Ok x → (length job ≤ longest_job) × (at ≤ length job)
     go true b p q e = not_ok e
     go false true p q e = not_ok e
-    go false false p q e = (is_not_below longest_job (length job) p, is_not_below (length job) at q)
+    go false false p q e = (ltb-false longest_job (length job) p, ltb-false (length job) at q)
 
 pub cut : (job : List ℕ) (at : ℕ) (c : Plain) (next : ℕ) → read_at job at ≡ Ok (c, next) → (d : Plain) × Alone job at c next d
 cut job at c next e = go (read_at (drop at job) 0) refl (sym (ap ok_of there) ∙ read_shift (take at job) (drop at job) (omega (arith, ap length whole, bounds.0)))

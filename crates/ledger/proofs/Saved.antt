@@ -17,7 +17,8 @@ use Rattle.station.specs.Recalls.{Said, commands_from, commands_of, acted, acted
 use Rattle.ledger.specs.Laws.{most_owed}
 use Rattle.ledger.specs.Ledgers.{action_read}
 use Rattle.ledger.proofs.Readers.{Reader, Whole}
-use Rattle.ledger.proofs.Basics.{below, not_below, ok_of}
+use Rattle.ledger.proofs.Basics.{ok_of}
+use Rattle.std.proofs.lemmas.Bool.{le-ltb, lt-ltb}
 use Rattle.ledger.proofs.Fields.{act_by, act_one, act_all, and_then}
 
 -- w is one whole label command
@@ -128,7 +129,7 @@ module _ (r : Reader) where
   actions_from : (ws : List (List ℕ)) → All Saved ws → (before : List ℕ) (turns : ℕ) → length (before ++ joined ws) ≤ longest_job → length (joined ws) ≤ turns
       → map read_action (commands_from turns (before ++ joined ws) (length before)) ≡ map saved_action ws
   actions_from [] h before turns short enough =
-      stop turns (before ++ []) (length before) (subst⁻¹ (λ (x : List ℕ). ltb (length before) (length x) ≡ false) (append-nil before) (not_below (length before) (length before) (omega arith)))
+      stop turns (before ++ []) (length before) (subst⁻¹ (λ (x : List ℕ). ltb (length before) (length x) ≡ false) (append-nil before) (le-ltb (length before) (length before) (omega arith)))
   actions_from (w ∷ ws) h before zero short enough =
       let some = some_bytes w h.0 in let long = length-append w (joined ws) in absurd (let z : ⊥ = omega (arith, some, long, enough) in z)
   actions_from (w ∷ ws) h before (suc turns) short enough =
@@ -142,7 +143,7 @@ module _ (r : Reader) where
       let next : next_at form (length before) ≡ length (before ++ w) = there.1.ends ∙ sym (length-append before w) in
       let rest : map read_action (commands_from turns ((before ++ w) ++ joined ws) (length (before ++ w))) ≡ map saved_action ws =
       actions_from ws h.1 (before ++ w) turns (subst⁻¹ (λ (x : List ℕ). length x ≤ longest_job) (append_assoc before w (joined ws)) short) (omega (arith, some, long, enough)) in
-      go_on turns form (length before) (below (length before) (length form) (omega (arith, some, long, all)))
+      go_on turns form (length before) (lt-ltb (length before) (length form) (omega (arith, some, long, all)))
       ∙ ap₂ (λ (a : Option Action) (as' : List (Option Action)). a ∷ as') head
       (ap (λ (n : ℕ). map read_action (commands_from turns form n)) next
       ∙ ap (λ (x : List ℕ). map read_action (commands_from turns x (length (before ++ w)))) (sym (append_assoc before w (joined ws)))

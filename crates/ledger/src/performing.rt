@@ -10,7 +10,7 @@ use station::state::Station;
 use stores::store::FormStore;
 use texts::rule::CountingRule;
 
-// Kept so: the buffers are the caller's, who may lend any length of each, and every length has its answer.
+// Kept so: the buffers are the caller's, who may lend any length of each; a struct of two `&mut` would be made anew at each call.
 
 // A command; tells whether it was accepted.
 fn send<S: FormStore, P: Printer, R1: CountingRule, R2: CountingRule>(

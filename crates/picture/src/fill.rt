@@ -22,6 +22,7 @@ fn fill_row(dots: &mut [u8; PICTURE_BYTES], row: usize, columns: Span, ink: Ink)
     }
 }
 
+// Kept so: as in fill_row, and the rows are a range already.
 // Inks the dots that lie in the rows and in the columns, each once.
 pub(crate) fn fill_box(dots: &mut [u8; PICTURE_BYTES], rows: Span, columns: Span, ink: Ink)
     ensures { Redrawn (λ r c. inked ink (within rows r && within columns c)) dots.old dots.new }

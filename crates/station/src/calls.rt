@@ -46,6 +46,7 @@ impl<S: FormStore, P: Printer, R1: CountingRule, R2: CountingRule> Station<S, P,
         self.printer.reload();
     }
 
+    // Kept so: a till lends a job, a place and two buffers, of any length; a struct of the buffers would be made anew at each call.
     // Does the command at a place of a job; answers the place behind it, or the fault.
     pub fn command(
         &mut self,

@@ -2,6 +2,8 @@
 use crate::mode::Mode;
 use label::label::Label;
 
+// Kept so: it has no model. What is seen of a station holds functions (forms by number, rules), and the value of a model is data; so contracts
+// name it by `seen`, of the meanings of the store, the printer and the rules.
 #[derive(Drop)]
 pub struct Station<S, P, R1, R2> {
     pub(crate) store: S,

@@ -8,6 +8,7 @@ pub enum LoadFault {
 }
 
 // Why a form store refuses.
+// Kept so: a store has three refusals of its own; that of a form which is not there is told by whoever reads, not by a put.
 #[derive(Clone, Copy, PartialEq, Eq, Debug)]
 pub enum StoreFault {
     NoForm,

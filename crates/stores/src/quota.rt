@@ -33,6 +33,7 @@ impl<S: FormStore> Quota<S> {
 }
 
 // The bytes of all forms but one.
+// Kept so: by filter_map and sum over the numbers, that the sum fits and what it is stayed open.
 fn others_of<S: FormStore>(store: &S, but: u8) -> usize
     ensures { result ≡ others (S.FormStore.forms store.now) but }
 {

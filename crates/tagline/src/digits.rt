@@ -3,6 +3,7 @@ ghost use Rattle.std.specs.Prelude.{◌≡◌};
 ghost use Rattle.tagline.specs.Digits.{digits};
 
 // The last N decimal digits of a number, as characters.
+// Kept so: over iter_mut().rev() the loop can not name what was written.
 pub fn digits<const N: usize>(n: usize) -> [u8; N]
     ensures { result ≡ digits N n }
 {

@@ -76,6 +76,7 @@ impl FromStr for RuleName {
     }
 }
 
+// Kept so: the readers of parts are functions, since none of the types read, but RuleName, is this crate's.
 fn check_of(part: &str) -> Result<Check, Wrong> {
     match part {
         "-" => Ok(Check::NoCheck),

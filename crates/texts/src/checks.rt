@@ -10,6 +10,7 @@ use crate::text::Text;
 use limits::bytes::is_digit;
 
 // How a text is checked; the check character is appended when the text is finished, and never kept in it.
+// Kept so: no check is one of the three that a format names, and an Option of the other two would have none of the methods below.
 #[derive(Clone, Copy, PartialEq, Eq, Debug)]
 pub enum Check {
     NoCheck,

@@ -20,7 +20,7 @@ impl Links {
     pub fn push(&mut self, number: u8) -> Result<(), LinkFault>
         ensures taken { is_ok result ≡ link_taken (seen_links self.old) number }
         ensures after { seen_links self.new ≡ (if link_taken (seen_links self.old) number then seen_links self.old ++ number ∷ [] else seen_links self.old) }
-        ensures no_string { result ≡ Err LinkFault.NoString → is_link number ≡ false }
+        ensures no_string { is_link number ≡ false → result ≡ Err LinkFault.NoString }
         ensures fifth { result ≡ Err LinkFault.Fifth → length (seen_links self.old) ≡ most_links }
     {
         if !matches!(number, 1..=LAST_LINK) {

@@ -9,10 +9,7 @@ impl Turn {
     pub fn is_last(&self) -> bool
         ensures { result ≡ is_last self.now }
     {
-        match self {
-            Turn::Tag(_) | Turn::Done(_) | Turn::Refused(_) => false,
-            Turn::Ended(_) | Turn::Spent(_) => true,
-        }
+        matches!(self, Turn::Ended(_) | Turn::Spent(_))
     }
 
     // The place where the job goes on after a step at a place.

@@ -2,7 +2,7 @@ use Rattle.std.proofs.Common.{◌≡◌, ◌<◌, Ok, sym, ap, ◌∙◌, subst,
 use Rattle.job.specs.Reading.{plain_answer}
 use Rattle.jobgroups.specs.Commands.{plain_of}
 use Rattle.station.specs.Reads.{read_at}
-use Rattle.station.proofs.Goes.{goes}
+use Rattle.job.proofs.Onward.{ended, onward}
 use Rattle.station.proofs.recall.do_one.Goals as goal
 
 pub returns-clause-on : goal.returns-clause-on
@@ -11,4 +11,4 @@ returns-clause-on c =
     let at = c.args.at in
     let was : c.read-next.result.0 ≡ Ok c.in_ok-command.command = search rules in
     let read : read_at form at ≡ Ok (plain_of c.in_ok-command.command) = sym c.read-next.ensures.answer ∙ ap plain_answer was in
-    subst (λ k. at < k) (sym c.read-next.ensures.next) (goes form at _ read)
+    subst (λ k. at < k) (sym c.read-next.ensures.next) (onward form at (sym (ap ended read))).1
