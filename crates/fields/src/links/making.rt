@@ -1,5 +1,5 @@
 // Making links and reading them.
-ghost use Rattle.std.specs.Prelude.{◌≡◌, [], ◌∷◌, ◌++◌, false, length, if◌then◌else◌, ◌==◌, is_ok, Err};
+ghost use Rattle.std.specs.Prelude.{◌≡◌, [], ◌∷◌, ◌++◌, false, true, length, if◌then◌else◌, ◌==◌, is_ok, Err};
 ghost use Rattle.fields.specs.Counts.{most_links, is_link, LinksBelow};
 ghost use Rattle.fields.specs.Records.{seen_links, link_taken};
 
@@ -21,7 +21,7 @@ impl Links {
         ensures taken { is_ok result ≡ link_taken (seen_links self.old) number }
         ensures after { seen_links self.new ≡ (if link_taken (seen_links self.old) number then seen_links self.old ++ number ∷ [] else seen_links self.old) }
         ensures no_string { is_link number ≡ false → result ≡ Err LinkFault.NoString }
-        ensures fifth { result ≡ Err LinkFault.Fifth → length (seen_links self.old) ≡ most_links }
+        ensures fifth { is_link number ≡ true → link_taken (seen_links self.old) number ≡ false → result ≡ Err LinkFault.Fifth }
     {
         if !matches!(number, 1..=LAST_LINK) {
             return Err(LinkFault::NoString);
