@@ -6,7 +6,7 @@ use stores::packed::PackedStore;
 use stores::quota::Quota;
 use stores::slots::SlotStore;
 
-pub fn layers(rt: &HostRuntime) -> io::Result<()> {
+pub(crate) fn layers(rt: &HostRuntime) -> io::Result<()> {
     drive(rt, "slot store, cache", ReadCache::new(SlotStore::new()))?;
     drive(
         rt,

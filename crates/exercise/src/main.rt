@@ -37,7 +37,7 @@ fn rolls(rt: &HostRuntime) -> io::Result<()> {
     for size in [0, 1, 3, 1_000_000, 1_000_001] {
         match Roll::new(size) {
             Ok(roll) => printing::drive(rt, "roll", size, roll)?,
-            Err(why) => println!(rt; "roll of {size}: refused {}", why.number())?,
+            Err(why) => println!(rt; "roll of {size}: refused {}", why.refusal.number())?,
         }
     }
     Ok(())
@@ -48,7 +48,7 @@ fn strips(rt: &HostRuntime) -> io::Result<()> {
         let bytes = vec![in rt.alloc(); 46u8; size]?;
         match Strip::new(bytes) {
             Ok(strip) => printing::drive(rt, "strip", size as u64, strip)?,
-            Err(why) => println!(rt; "strip of {size}: refused {}", why.number())?,
+            Err(why) => println!(rt; "strip of {size}: refused {}", why.refusal.number())?,
         }
     }
     Ok(())

@@ -56,7 +56,7 @@ fn perform<P: Printer>(rt: &HostRuntime, printer: &mut P, step: Step) -> io::Res
     println!(rt; ": taken {}, left {}", printer.taken(), printer.left())
 }
 
-pub fn drive<P: Printer + Drop>(
+pub(crate) fn drive<P: Printer + Drop>(
     rt: &HostRuntime,
     name: &str,
     amount: u64,

@@ -134,7 +134,11 @@ fn perform<S: FormStore>(rt: &HostRuntime, store: &mut S, step: Step) -> io::Res
     }
 }
 
-pub fn drive<S: FormStore + Drop>(rt: &HostRuntime, name: &str, mut store: S) -> io::Result<()> {
+pub(crate) fn drive<S: FormStore + Drop>(
+    rt: &HostRuntime,
+    name: &str,
+    mut store: S,
+) -> io::Result<()> {
     println!(rt; "{name}")?;
     for step in ROUND {
         perform(rt, &mut store, step)?;
@@ -142,7 +146,7 @@ pub fn drive<S: FormStore + Drop>(rt: &HostRuntime, name: &str, mut store: S) ->
     Ok(())
 }
 
-pub fn lowered(rt: &HostRuntime) -> io::Result<()> {
+pub(crate) fn lowered(rt: &HostRuntime) -> io::Result<()> {
     println!(rt; "packed store with 30 bytes, then quota 20")?;
     let mut below = PackedStore::new();
     put(rt, &mut below, 1, 10, b'a')?;

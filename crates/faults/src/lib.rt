@@ -3,6 +3,7 @@
 
 ghost use Rattle.std.specs.Prelude.{◌≡◌, Some};
 ghost use Rattle.faults.specs.Numbers.{number_of, layer_of, letter_of};
+ghost use Rattle.faults.specs.Places.{unplaced};
 ghost use Rattle.faults.specs.Words.{words_of};
 
 use std::fmt;
@@ -137,4 +138,16 @@ pub struct Fault {
     pub form: u8,
     pub place: usize,
     pub next: usize,
+}
+
+// The fault of a call that reads no command: there is no form, and no place.
+pub fn unplaced(refusal: Refusal) -> Fault
+    ensures { result ≡ unplaced refusal }
+{
+    Fault {
+        refusal,
+        form: 0,
+        place: 0,
+        next: 0,
+    }
 }

@@ -3,7 +3,7 @@ use Rattle.std.proofs.Common.{◌≡◌, ℕ, ◌-◌, ◌<◌, Bool, true, fals
 use Rattle.std.proofs.lemmas.List.{map-set, get_or-map, set-get_or}
 use Rattle.limits.specs.Bytes.{between}
 use Rattle.fields.specs.Records.{Slot, seen_field, blank_slot}
-use Rattle.fields.specs.Counts.{text_fields, bar_fields}
+use Rattle.limits.specs.Limits.{text_fields, bar_fields}
 use Rattle.fields.specs.Tables.{Table, Updated, Answered, place_of}
 use Rattle.fields.specs.declared.fault.FieldFault.{FieldFault}
 use Rattle.fields.specs.declared.fault.FieldFault.TheVariants.{NoFormat}

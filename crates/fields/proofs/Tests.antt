@@ -1,20 +1,16 @@
 -- What no field's joined text being too long gives.
 use Rattle.std.proofs.Common.{◌≡◌, ℕ, Bool, true, false, cond, ◌||◌, List, [], ◌∷◌, map, Some, None, refl, ap, ◌∙◌}
+use Rattle.std.proofs.lemmas.Bool.{or_parts}
 use Rattle.fields.specs.Records.{Slot}
 use Rattle.fields.specs.Tables.{Table, some_slot, any_slot, each_slot}
 use Rattle.fields.specs.Linking.{too_long, outside, outside_if_fits, linked_slot, linked_if_fits, linked, link_refusal}
 use Rattle.fields.specs.declared.fault.FieldFault.TheVariants.{JoinedTooLong, OutsideCheck}
 
--- the first slot fails the test, and all behind it do
-both : (b c : Bool) → (b || c) ≡ false → (b ≡ false) × (c ≡ false)
-both true c h = (h, cc)
-both false c h = (refl, h)
-
 pub outside_fits : (strings : List (List ℕ)) (slots : List Slot) → some_slot (too_long strings) slots ≡ false
     → some_slot (outside_if_fits strings) slots ≡ some_slot (outside strings) slots
 outside_fits strings [] h = refl
 outside_fits strings (s ∷ ss) h =
-    let b = both (too_long strings s) (some_slot (too_long strings) ss) h in
+    let b = or_parts (too_long strings s) (some_slot (too_long strings) ss) h in
     ap (λ t. cond t false (outside strings s) || some_slot (outside_if_fits strings) ss) b.0
     ∙ ap (λ r. outside strings s || r) (outside_fits strings ss b.1)
 
@@ -22,13 +18,13 @@ pub linked_fits : (strings : List (List ℕ)) (slots : List Slot) → some_slot 
     → map (linked_if_fits strings) slots ≡ map (linked_slot strings) slots
 linked_fits strings [] h = refl
 linked_fits strings (s ∷ ss) h =
-    let b = both (too_long strings s) (some_slot (too_long strings) ss) h in
+    let b = or_parts (too_long strings s) (some_slot (too_long strings) ss) h in
     ap (λ t. cond t s (linked_slot strings s) ∷ map (linked_if_fits strings) ss) b.0
     ∙ ap (λ l. linked_slot strings s ∷ l) (linked_fits strings ss b.1)
 
 module _ (strings : List (List ℕ)) (t : Table) (fits : any_slot (too_long strings) t ≡ false) where
   parts : (some_slot (too_long strings) t.texts ≡ false) × (some_slot (too_long strings) t.bars ≡ false)
-  parts = both _ _ fits
+  parts = or_parts _ _ fits
 
   -- where all joined texts fit, only a character outside a check's set is a reason to refuse
   pub refusal_fits : link_refusal strings t ≡ cond (any_slot (outside_if_fits strings) t) (Some OutsideCheck) None

@@ -8,7 +8,8 @@ use Rattle.std.specs.Prelude.{ℕ, Bool, false, cond, List, [], length, ℤ, Som
 use Rattle.fixedvec.specs.Items.{items}
 use Rattle.texts.specs.Contents.{contents}
 use Rattle.texts.specs.declared.checks.Check.{Check}
-use Rattle.fields.specs.Counts.{most_links, is_link}
+use Rattle.limits.specs.Limits.{most_links}
+use Rattle.fields.specs.Counts.{is_link}
 use Rattle.fields.specs.declared.links.Links.{Links}
 use Rattle.fields.specs.declared.format.Kind.{Kind}
 use Rattle.fields.specs.declared.format.Format.{Format}

@@ -14,7 +14,7 @@
 use Rattle.std.specs.Prelude.{◌≡◌, ℕ, ◌-◌, Bool, ◌||◌, cond, List, map, replicate, Some, None, Ok, Err, Option, Result, slice_index_or, slice_set}
 use Rattle.std.specs.List.{list_any}
 use Rattle.limits.specs.Bytes.{between}
-use Rattle.fields.specs.Counts.{text_fields, bar_fields}
+use Rattle.limits.specs.Limits.{text_fields, bar_fields}
 use Rattle.fields.specs.Records.{Slot, seen_field, blank_slot}
 use Rattle.fields.specs.declared.fault.FieldFault.{FieldFault}
 use Rattle.fields.specs.declared.fault.FieldFault.TheVariants.{NoFormat}

@@ -4,11 +4,7 @@ ghost use Rattle.fixedvec.specs.Items.{items};
 ghost use Rattle.fields.specs.Counts.{LinksBelow};
 
 use fixedvec::FixedVec;
-
-pub const MOST_LINKS: usize = 4;
-
-// Link strings are numbered from 1.
-pub const LAST_LINK: u8 = 8;
+use limits::sizes::MOST_LINKS;
 
 #[derive(Clone, Copy)]
 pub struct Links {

@@ -1,9 +1,6 @@
 // The field table of a label: 16 text fields and 8 bar fields.
 use crate::field::Field;
-
-pub const TEXT_FIELDS: usize = 16;
-
-pub const BAR_FIELDS: usize = 8;
+use limits::sizes::{BAR_FIELDS, TEXT_FIELDS};
 
 // A field by its kind and number. Fields are numbered from 1.
 #[derive(Clone, Copy)]

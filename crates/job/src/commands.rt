@@ -17,9 +17,10 @@ use jobgroups::groups::{
 use jobgroups::letters::Letters;
 use jobparts::cursor::Cursor;
 use jobparts::part::{List, Wrong};
+use limits::sizes::LAST_LINK;
 
 // A label takes at most so many link strings behind the first.
-const FURTHER_STRINGS: usize = 7;
+const FURTHER_STRINGS: usize = LAST_LINK as usize - 1;
 
 fn text_format<'a>(cursor: &mut Cursor<'a>) -> Result<TextFormat<'a>, Wrong>
     ensures { Takes text_format_slots result cursor.old cursor.new (groups_at (parts_of Pc) []) }

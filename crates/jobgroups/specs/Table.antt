@@ -5,6 +5,7 @@
 --   order         the commands in the order in which letters are tried: `RC;` before `RC`
 use Rattle.std.specs.Prelude.{ℕ, Bool, true, false, cond, List, [], ◌∷◌, ◌==◌, nat_eq, nat_le, slice_index_or}
 use Rattle.limits.specs.Bytes.{between}
+use Rattle.limits.specs.Limits.{longest_finished, last_form, text_fields, bar_fields, most_links, last_link}
 use Rattle.jobparts.specs.Grammar.{Item, fixed, part, number, chosen, lettered, signed, text, strings, source, one_of, one_letter}
 use Rattle.jobparts.specs.Items.{Admits}
 use Rattle.jobparts.specs.Kinds.{stands}
@@ -61,10 +62,10 @@ unfoldable pub sizes : List Item
 sizes = number 4 0 1500 ∷ comma ∷ number 4 100 540 ∷ comma ∷ chosen Digit 4 not_above_pitch ∷ []
 
 unfoldable pub text_field : List Item
-text_field = number 3 1 16 ∷ semicolon ∷ []
+text_field = number 3 1 text_fields ∷ semicolon ∷ []
 
 unfoldable pub bar_field : List Item
-bar_field = number 2 1 8 ∷ semicolon ∷ []
+bar_field = number 2 1 bar_fields ∷ semicolon ∷ []
 
 unfoldable pub point : List Item
 point = place_x ∷ comma ∷ place_y ∷ []
@@ -83,7 +84,7 @@ check_figure = lettered 77 1 1 false ∷ []
 
 -- the step, zero suppression, and where the text comes from
 unfoldable pub extras : List Item
-extras = signed 10 false ∷ lettered 90 2 41 true ∷ source 4 ∷ []
+extras = signed 10 false ∷ lettered 90 2 longest_finished true ∷ source most_links ∷ []
 
 -- the type of a bar, and its check
 unfoldable pub bar_type : List Item
@@ -100,7 +101,7 @@ abbrev pub whole_text : List Item
 whole_text = text ∷ []
 
 abbrev pub link_strings : List Item
-link_strings = strings 8 ∷ []
+link_strings = strings last_link ∷ []
 
 unfoldable pub line_ends : List Item
 line_ends = semicolon ∷ place_x ∷ comma ∷ place_y ∷ comma ∷ place_x ∷ comma ∷ chosen Digit 4 not_slanted ∷ []
@@ -126,7 +127,7 @@ issue_setup = part Digit 1 ∷ part Capital 1 ∷ part CapitalOrDigit 1 ∷ part
 
 -- a form, and the response
 unfoldable pub form : List Item
-form = semicolon ∷ number 2 1 20 ∷ comma ∷ number 1 0 1 ∷ []
+form = semicolon ∷ number 2 1 last_form ∷ comma ∷ number 1 0 1 ∷ []
 
 -- L or M
 abbrev pub recall_target : List Item

@@ -13,6 +13,7 @@ use crate::command::{
 };
 use jobparts::cursor::Cursor;
 use jobparts::part::{Kind, Part, Wrong};
+use limits::sizes::{BAR_FIELDS, LAST_FORM, LONGEST_FINISHED, TEXT_FIELDS};
 
 // pppp,wwww,llll
 #[tactic(auto, unfolding(crate::specs::Table::sizes))]
@@ -45,7 +46,7 @@ fn field<'a>(cursor: &mut Cursor<'a>, count: usize, high: u64) -> Result<Part<'a
 pub fn text_field<'a>(cursor: &mut Cursor<'a>) -> Result<Part<'a>, Wrong>
     ensures { Takes part_slots result cursor.old cursor.new (group_at text_field []) }
 {
-    field(cursor, 3, 16)
+    field(cursor, 3, TEXT_FIELDS as u64)
 }
 
 // nn;
@@ -53,7 +54,7 @@ pub fn text_field<'a>(cursor: &mut Cursor<'a>) -> Result<Part<'a>, Wrong>
 pub fn bar_field<'a>(cursor: &mut Cursor<'a>) -> Result<Part<'a>, Wrong>
     ensures { Takes part_slots result cursor.old cursor.new (group_at bar_field []) }
 {
-    field(cursor, 2, 8)
+    field(cursor, 2, BAR_FIELDS as u64)
 }
 
 // xxxx,yyyy
@@ -111,7 +112,7 @@ pub fn extras_at<'a>(cursor: &mut Cursor<'a>) -> Result<Extras<'a>, Wrong>
     ensures { Takes extras_slots result cursor.old cursor.new (group_at extras []) }
 {
     let step = cursor.signed(10, false)?;
-    let zeros = cursor.lettered(b'Z', 2, 41, true)?;
+    let zeros = cursor.lettered(b'Z', 2, LONGEST_FINISHED as u64, true)?;
     let source = cursor.source()?;
     Ok(Extras {
         step,
@@ -247,7 +248,7 @@ pub fn form_at<'a>(cursor: &mut Cursor<'a>) -> Result<Form<'a>, Wrong>
     ensures { Takes form_slots result cursor.old cursor.new (group_at form []) }
 {
     cursor.byte(b';')?;
-    let form = cursor.number(2, 1, 20)?;
+    let form = cursor.number(2, 1, u64::from(LAST_FORM))?;
     cursor.byte(b',')?;
     let response = cursor.number(1, 0, 1)?;
     Ok(Form { form, response })

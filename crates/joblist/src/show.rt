@@ -91,7 +91,7 @@ fn show_drawing(rt: &HostRuntime, ends: Ends<'_>) -> io::Result<()> {
     show_point(rt, ends.to)
 }
 
-pub fn show_command(rt: &HostRuntime, at: usize, command: Command<'_>) -> io::Result<()> {
+pub(crate) fn show_command(rt: &HostRuntime, at: usize, command: Command<'_>) -> io::Result<()> {
     match command {
         Command::SetSize(s) => {
             head(rt, at, Letters::D, "sizes")?;

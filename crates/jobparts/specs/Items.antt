@@ -1,7 +1,7 @@
 -- The items that commands are made of, and the one reading of them.
 use Rattle.std.specs.Prelude.{ℕ, zero, suc, ◌+◌, ◌-◌, Bool, cond, List, [], ◌∷◌, map, length, take, drop, Ok, Err, Result, nat_eq, nat_le, nat_lt, slice_index_or, slice_range}
 use Rattle.limits.specs.Bytes.{between}
-use Rattle.limits.specs.Limits.{longest_text}
+use Rattle.limits.specs.Limits.{longest_text, last_link}
 use Rattle.jobparts.specs.Kinds.{run, stands, is_sign}
 use Rattle.jobparts.specs.Slots.{Slot, missing, given, linked, Got, bytes_of, then, wrong_byte, not_admitted}
 use Rattle.jobparts.specs.Values.{number_of}
@@ -70,7 +70,7 @@ string_at body at =
     then (admitted_at (nat_le (text_stop body at - at) longest_text) at) (λ _. Ok (text_stop body at)))
 
 unfoldable pub link_at : List ℕ → ℕ → Result ℕ Wrong
-link_at body at = then (number_at 2 1 8 body at) (λ o. Ok o.1)
+link_at body at = then (number_at 2 1 last_link body at) (λ o. Ok o.1)
 
 unfoldable pub element_at : Listed → List ℕ → ℕ → Result ℕ Wrong
 element_at Strings = string_at

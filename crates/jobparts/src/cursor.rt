@@ -2,14 +2,15 @@
 ghost use Rattle.std.specs.Prelude.{◌≡◌, ◌-◌, ◌≤◌, take, drop, length, nat_eq, cond, ◌+◌, ◌<◌};
 ghost use Rattle.jobparts.specs.Items.{byte_at, part_at, number_at, end_at, text_stop, text_at, stopped_at, string_at, element_at, list_at, list_part_at, left_out, lettered_at, signed_at, source_at};
 ghost use Rattle.jobparts.specs.Kinds.{stands};
+ghost use Rattle.limits.specs.Limits.{most_links};
 ghost use Rattle.jobparts.specs.Slots.{slot_of, given, part_slots, option_slots, source_slots};
 
 use crate::bytes::{first, rest_at, run_of, sign_at, stands_at};
 use crate::part::{Kind, List, Part, Source, Wrong};
-use limits::sizes::LONGEST_TEXT;
+use limits::sizes::{LAST_LINK, LONGEST_TEXT, MOST_LINKS};
 
 // A field joins at most so many link strings behind its first.
-pub const FURTHER_LINKS: usize = 3;
+pub const FURTHER_LINKS: usize = MOST_LINKS - 1;
 
 // Each method takes what stands at the place and moves behind it; after an error the place tells nothing.
 #[derive(Clone, Copy)]
@@ -154,7 +155,7 @@ impl<'a> Cursor<'a> {
     {
         match list {
             List::Strings => self.string(),
-            List::Numbers => self.number(2, 1, 8),
+            List::Numbers => self.number(2, 1, u64::from(LAST_LINK)),
         }
     }
 
@@ -235,7 +236,7 @@ impl<'a> Cursor<'a> {
     // Nothing, `=` and a text, or `;` and link numbers.
     #[tactic(auto, unfolding(crate::specs::Items::source_at))]
     pub fn source(&mut self) -> Result<Source<'a>, Wrong>
-        ensures { Takes source_slots result self.old self.new (source_at 3) }
+        ensures { Takes source_slots result self.old self.new (source_at (most_links - 1)) }
     {
         if self.passes(b'=') {
             Ok(Source::Text(self.text()?))

@@ -1,5 +1,5 @@
 -- The steps of a job are calls of a run, so what holds throughout runs holds throughout jobs.
-use Rattle.std.proofs.Common.{◌≡◌, ℕ, ◌+◌, ◌≤◌, Bool, true, false, List, [], ◌∷◌, ◌++◌, length, Some, None, Ok, Err, Option, Result, sym, refl, ap, subst, arith}
+use Rattle.std.proofs.Common.{◌≡◌, ℕ, ◌+◌, ◌≤◌, Bool, true, false, List, [], ◌∷◌, ◌++◌, length, Some, None, Ok, Err, Option, Result, inl, inr, sym, refl, ap, subst, arith}
 use mathlib.Core.Path.{subst⁻¹}
 use Rattle.faults.specs.declared.Fault.{Fault}
 use Rattle.texts.specs.Wheels.{Wheels}
@@ -16,6 +16,8 @@ use Rattle.ledger.proofs.Bond.{Bound, tied_step, tied_made}
 use Rattle.ledger.proofs.Reading.{reader}
 use Rattle.jobrun.specs.Turns.{Moment, Taken, Again, Sending, TurnedBy, Turned, is_out, with_view}
 use Rattle.jobrun.specs.Jobs.{tag_in, tags_in, Turns, place_after, is_last}
+use Rattle.jobrun.specs.Calls.{accepted, refused, CallsOf, Makes, MakesAll}
+use Rattle.jobrun.specs.Hearing.{HearsAll}
 use Rattle.jobrun.specs.declared.turn.Turn.{Turn}
 use Rattle.jobrun.specs.declared.turn.Turn.TheVariants.{Tag, Done, Refused, Ended, Spent}
 
@@ -30,11 +32,11 @@ abbrev pub taken_in : List Event → ℕ
 taken_in [] = 0
 taken_in (e ∷ es) = taken_by e.call e.accepted + taken_in es
 
-taken_append : (es fs : List Event) → taken_in (es ++ fs) ≡ taken_in es + taken_in fs
+pub taken_append : (es fs : List Event) → taken_in (es ++ fs) ≡ taken_in es + taken_in fs
 taken_append [] fs = omega arith
 taken_append (e ∷ es) fs = let h = taken_append es fs in omega arith
 
-run_append : (u v x : View) (es fs : List Event) → Run u es v → Run v fs x → Run u (es ++ fs) x
+pub run_append : (u v x : View) (es fs : List Event) → Run u es v → Run v fs x → Run u (es ++ fs) x
 run_append u v x [] fs run more = subst (λ (z : View). Run z fs x) run more
 run_append u v x (e ∷ es) fs run more = (run.0, run.1, run_append run.0 v x es fs run.2 more)
 
@@ -44,8 +46,11 @@ pub record Calls (v : View) (n : ℕ) (x : View) : Type 0 where
   pub run : Run v events x
   pub taken : taken_in events ≡ n
 
-abbrev event : Call → Bool → Event
-event c ok = record { call = c; accepted = ok }
+-- the calls of a step
+pub record StepCalls (job : List ℕ) (at : ℕ) (d : Moment) (t : Turn) (e : Moment) : Type 0 where
+  pub events : List Event
+  pub makes : Makes job at d t events e
+  pub taken : taken_in events ≡ tag_in t
 
 printed_once : (d e : Moment) (n : ℕ) → Taken d n e → Step d.view (print (length d.work)) true e.view
 printed_once d e n t = (t.step.0, t.step.1)
@@ -53,91 +58,113 @@ printed_once d e n t = (t.step.0, t.step.1)
 not_printed : (v : View) (w : ℕ) (f : Fault) → print_fault v w ≡ Some f → Step v (print w) false v
 not_printed v w f h = (f, h, refl)
 
-again_calls : (d e : Moment) (t : Turn) (f : Fault) → print_fault d.view (length d.work) ≡ Some f → Again d t e → Calls d.view (tag_in t) e.view
-again_calls d e (Tag n) f h a =
-    let w = length d.work in
-    record {
-      events = event (print w) false ∷ event reload true ∷ event (print w) true ∷ [];
-      run = (d.view, not_printed d.view w f h, (a.0, a.1, (e.view, printed_once (with_view a.0 d) e n a.2, refl)));
-      taken = refl;
-    }
-again_calls d e (Done next) f h a = absurd a
-again_calls d e (Refused g) f h a = absurd a
-again_calls d e (Ended g) f h a = absurd a
-again_calls d e (Spent g) f h a =
-    let w = length d.work in
-    record {
-      events = event (print w) false ∷ event reload true ∷ event (print w) false ∷ [];
-      run = (d.view, not_printed d.view w f h, (e.view, a.0, (e.view, not_printed e.view w g a.1, refl)));
-      taken = refl;
-    }
+module _ (job : List ℕ) (at : ℕ) (d e : Moment) (f : Fault) (h : print_fault d.view (length d.work) ≡ Some f) where
+  again_calls : (t : Turn) → Again d t e → StepCalls job at d t e
+  again_calls (Tag n) a =
+      let w = length d.work in
+      record {
+        events = refused (print w) ∷ accepted reload ∷ accepted (print w) ∷ [];
+        makes = record { calls = inr refl; run = (d.view, not_printed d.view w f h, (a.0, a.1, (e.view, printed_once (with_view a.0 d) e n a.2, refl))) };
+        taken = refl;
+      }
+  again_calls (Done next) a = absurd a
+  again_calls (Refused g) a = absurd a
+  again_calls (Ended g) a = absurd a
+  again_calls (Spent g) a =
+      let w = length d.work in
+      record {
+        events = refused (print w) ∷ accepted reload ∷ refused (print w) ∷ [];
+        makes = record { calls = refl; run = (d.view, not_printed d.view w f h, (e.view, a.0, (e.view, not_printed e.view w g a.1, refl))) };
+        taken = refl;
+      }
 
-sending_calls : (job : List ℕ) (at : ℕ) (d e : Moment) (t : Turn) (f : Fault) → print_fault d.view (length d.work) ≡ Some f → Sending job at d t e → Calls d.view (tag_in t) e.view
-sending_calls job at d e (Tag n) f h s = absurd s
-sending_calls job at d e (Done next) f h s =
-    let a = length d.answer in
-    let w = length d.work in
-    record {
-      events = event (print w) false ∷ event (command job at a w) true ∷ [];
-      run = (d.view, not_printed d.view w f h, (e.view, (next, s.step), refl));
-      taken = refl;
-    }
-sending_calls job at d e (Refused g) f h s =
-    let a = length d.answer in
-    let w = length d.work in
-    record {
-      events = event (print w) false ∷ event (command job at a w) false ∷ [];
-      run = (d.view, not_printed d.view w f h, (e.view, (g, s.0.step.0, s.0.step.1), refl));
-      taken = refl;
-    }
-sending_calls job at d e (Ended g) f h s =
-    let a = length d.answer in
-    let w = length d.work in
-    record {
-      events = event (print w) false ∷ event (command job at a w) false ∷ [];
-      run = (d.view, not_printed d.view w f h, (e.view, (g, s.0.step.0, s.0.step.1), refl));
-      taken = refl;
-    }
-sending_calls job at d e (Spent g) f h s = absurd s
+  sending_calls : (t : Turn) → Sending job at d t e → StepCalls job at d t e
+  sending_calls (Tag n) s = absurd s
+  sending_calls (Done next) s =
+      let a = length d.answer in
+      let w = length d.work in
+      record {
+        events = refused (print w) ∷ accepted (command job at a w) ∷ [];
+        makes = record { calls = refl; run = (d.view, not_printed d.view w f h, (e.view, (next, s.step), refl)) };
+        taken = refl;
+      }
+  sending_calls (Refused g) s =
+      let a = length d.answer in
+      let w = length d.work in
+      record {
+        events = refused (print w) ∷ refused (command job at a w) ∷ [];
+        makes = record { calls = refl; run = (d.view, not_printed d.view w f h, (e.view, (g, s.0.step.0, s.0.step.1), refl)) };
+        taken = refl;
+      }
+  sending_calls (Ended g) s =
+      let a = length d.answer in
+      let w = length d.work in
+      record {
+        events = refused (print w) ∷ refused (command job at a w) ∷ [];
+        makes = record { calls = refl; run = (d.view, not_printed d.view w f h, (e.view, (g, s.0.step.0, s.0.step.1), refl)) };
+        taken = refl;
+      }
+  sending_calls (Spent g) s = absurd s
 
-pub step_calls : (job : List ℕ) (at : ℕ) (d e : Moment) (t : Turn) → Turned job at d t e → Calls d.view (tag_in t) e.view
-step_calls job at d e t h = go (print_fault d.view (length d.work)) refl h
+pub step_makes : (job : List ℕ) (at : ℕ) (d e : Moment) (t : Turn) → Turned job at d t e → StepCalls job at d t e
+step_makes job at d e t h = go (print_fault d.view (length d.work)) refl h
   where
-    stocked : (f : Fault) → print_fault d.view (length d.work) ≡ Some f → (b : Bool) → is_out f ≡ b → TurnedBy (Some f) job at d t e → Calls d.view (tag_in t) e.view
-    stocked f q true b h = again_calls d e t f q (h.0 b)
-    stocked f q false b h = sending_calls job at d e t f q (h.1 b)
+    stocked : (f : Fault) → print_fault d.view (length d.work) ≡ Some f → (b : Bool) → is_out f ≡ b → TurnedBy (Some f) job at d t e → StepCalls job at d t e
+    stocked f q true b h = again_calls job at d e f q t (h.0 b)
+    stocked f q false b h = sending_calls job at d e f q t (h.1 b)
 
-    go : (o : Option Fault) → print_fault d.view (length d.work) ≡ o → TurnedBy o job at d t e → Calls d.view (tag_in t) e.view
-    go None q h = record {
-      events = event (print (length d.work)) true ∷ [];
-      run = (e.view, printed_once d e h.0 h.2, refl);
-      taken = sym (ap tag_in h.1);
-    }
+    go : (o : Option Fault) → print_fault d.view (length d.work) ≡ o → TurnedBy o job at d t e → StepCalls job at d t e
+    go None q h =
+        let w = length d.work in
+        let es : List Event = accepted (print w) ∷ [] in
+        record {
+          events = es;
+          makes = record { calls = subst⁻¹ (λ (x : Turn). CallsOf job at (length d.answer) w x es) h.1 (inl refl); run = (e.view, printed_once d e h.0 h.2, refl) };
+          taken = sym (ap tag_in h.1);
+        }
     go (Some f) q h = stocked f q (is_out f) refl h
 
+abbrev pub step_calls : (job : List ℕ) (at : ℕ) (d e : Moment) (t : Turn) → Turned job at d t e → Calls d.view (tag_in t) e.view
+step_calls job at d e t h = let c = step_makes job at d e t h in record { events = c.events; run = c.makes.run; taken = c.taken }
+
 -- ---- many steps
-pub calls_append : (u v x : View) (n k : ℕ) → Calls u n v → Calls v k x → Calls u (n + k) x
+abbrev pub calls_append : (u v x : View) (n k : ℕ) → Calls u n v → Calls v k x → Calls u (n + k) x
 calls_append u v x n k a b = record {
   events = a.events ++ b.events;
   run = run_append u v x a.events b.events a.run b.run;
   taken = let sum = taken_append a.events b.events in let one = a.taken in let more = b.taken in omega (arith, sum, one, more);
 }
 
-pub turns_calls : (job : List ℕ) (at p : ℕ) (d e : Moment) (ts : List Turn) → Turns job at d ts p e → Calls d.view (tags_in ts) e.view
-turns_calls job at p d e [] h = record { events = []; run = ap (λ (m : Moment). m.view) h.1; taken = refl }
-turns_calls job at p d e (t ∷ ts) h =
-    calls_append d.view h.0.view e.view (tag_in t) (tags_in ts) (step_calls job at d h.0 t h.1) (turns_calls job (place_after t at) p h.0 e ts h.3)
+pub record TurnsCalls (job : List ℕ) (at : ℕ) (d : Moment) (ts : List Turn) (p : ℕ) (e : Moment) (h : Turns job at d ts p e) : Type 0 where
+  pub calls : Calls d.view (tags_in ts) e.view
+  pub makes : MakesAll job at d ts p e h calls.events
+
+pub turns_make : (job : List ℕ) (at p : ℕ) (d e : Moment) (ts : List Turn) (h : Turns job at d ts p e) → TurnsCalls job at d ts p e h
+turns_make job at p d e [] h = record { calls = record { events = []; run = ap (λ (m : Moment). m.view) h.1; taken = refl }; makes = refl }
+turns_make job at p d e (t ∷ ts) h =
+    let one = step_makes job at d h.0 t h.1 in
+    let more = turns_make job (place_after t at) p h.0 e ts h.3 in
+    record {
+      calls = calls_append d.view h.0.view e.view (tag_in t) (tags_in ts) (step_calls job at d h.0 t h.1) more.calls;
+      makes = (one.events, more.calls.events, refl, one.makes, more.makes);
+    }
 
 pub tags_more : (ts : List Turn) (t : Turn) → tags_in (ts ++ t ∷ []) ≡ tags_in ts + tag_in t
 tags_more [] t = omega arith
 tags_more (x ∷ ts) t = let h = tags_more ts t in omega arith
 
 -- one step more
-pub turns_more : (job : List ℕ) (at p : ℕ) (d m e : Moment) (ts : List Turn) (t : Turn) → Turns job at d ts p m → Turned job p m t e → is_last t ≡ false
+abbrev pub turns_more : (job : List ℕ) (at p : ℕ) (d m e : Moment) (ts : List Turn) (t : Turn) → Turns job at d ts p m → Turned job p m t e → is_last t ≡ false
     → Turns job at d (ts ++ t ∷ []) (place_after t p) e
 turns_more job at p d m e [] t h s l =
     (e, subst (λ (k : ℕ). Turned job k d t e) h.0 (subst (λ (z : Moment). Turned job p z t e) h.1 s), l, (ap (place_after t) h.0, refl))
 turns_more job at p d m e (x ∷ ts) t h s l = (h.0, h.1, h.2, turns_more job (place_after x at) p h.0 m e ts t h.3 s l)
+
+-- and a listener that hears of it too
+pub hears_more : {K : Type 0} (R : K → Turn → List ℕ → K → Type 0) (job : List ℕ) (at p : ℕ) (d m e : Moment) (ts : List Turn) (t : Turn) (h : Turns job at d ts p m) (s : Turned job p m t e) (l : is_last t ≡ false)
+    → (k n o : K) → HearsAll R job at d ts p m h k n → R n t e.work o → HearsAll R job at d (ts ++ t ∷ []) (place_after t p) e (turns_more job at p d m e ts t h s l) k o
+hears_more R job at p d m e [] t h s l k n o q r = (o, subst (λ x. R x t e.work o) q r, refl)
+hears_more R job at p d m e (x ∷ ts) t h s l k n o q r = (q.0, q.1, hears_more R job (place_after x at) p h.0 m e ts t h.3 s l q.0 n o q.2 r)
 
 -- ---- the ledger of a run
 module _ (w w' : Wheels) (base : ℕ) where

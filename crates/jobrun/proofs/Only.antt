@@ -1,4 +1,4 @@
--- A job has one outcome: its steps do not depend on how much stock a printer has.
+-- A job has one outcome: its steps do not depend on the printer, which it is and how much stock it has.
 use Rattle.std.proofs.Common.{◌≡◌, ℕ, ◌+◌, ◌<◌, Bool, true, false, cond, eqb, ltb, List, [], ◌∷◌, length, Some, None, Ok, Err, Result, sym, refl, ap, ◌∙◌, subst, ap₂, arith}
 use mathlib.Core.Path.{subst⁻¹}
 use Rattle.std.proofs.lemmas.Bool.Decides.{nat_tests}
@@ -13,7 +13,7 @@ use Rattle.station.specs.Views.{Doing, idle, saving, owing, View, made, owed_in}
 use Rattle.ledger.proofs.Basics.{never, not_none, not_ok, ok_inj}
 use Rattle.jobrun.specs.Turns.{Moment, Taken, Sent, Again, Sending, TurnedBy, Turned, with_view, ends}
 use Rattle.jobrun.specs.Jobs.{is_last, place_after, tag_in, Turns}
-use Rattle.jobrun.specs.Outcomes.{unprinted, Same, OneOutcome}
+use Rattle.jobrun.specs.Outcomes.{unprinted, Same, InStep, OneOutcome}
 use Rattle.jobrun.specs.declared.turn.Turn.{Turn}
 use Rattle.jobrun.specs.declared.turn.Turn.TheVariants.{Tag, Done, Refused, Ended, Spent}
 use Rattle.jobrun.proofs.Calls.{Calls, step_calls, calls_append, bound_so_far}
@@ -202,37 +202,59 @@ module _ (job : List ℕ) (at : ℕ) (d d' e e' : Moment) (t t' : Turn) (same : 
       go false w = commands_same w (sym wants_same ∙ w) (command_next job at d e t w h) (command_next job at d' e' t' (sym wants_same ∙ w) h')
 
 -- ---- two jobs
-module _ (forms : Forms) (paper : Paper) (w w' : Wheels) (far : paper.taken + most_ordered < last_tag) (job : List ℕ) where
-  more_tags : (n : ℕ) (x : View) → Calls (made forms paper w w') n x → x.paper.taken < last_tag
-  more_tags n x c = let b = bound_so_far forms paper w w' n x c in omega (arith, b.taken, b.tags, b.most, far)
+-- far enough from its last tag, a printer takes whatever a job orders
+more_tags : (forms : Forms) (paper : Paper) (w w' : Wheels) → paper.taken + most_ordered < last_tag → (n : ℕ) (x : View) → Calls (made forms paper w w') n x → x.paper.taken < last_tag
+more_tags forms paper w w' far n x c = let b = bound_so_far forms paper w w' n x c in omega (arith, b.taken, b.tags, b.most, far)
 
-  abbrev on : (d e : Moment) (at n : ℕ) (t : Turn) → Calls (made forms paper w w') n d.view → Turned job at d t e → Calls (made forms paper w w') (n + tag_in t) e.view
-  on d e at n t c h = calls_append (made forms paper w w') d.view e.view n (tag_in t) c (step_calls job at d e t h)
+on : (u : View) (job : List ℕ) (d e : Moment) (at n : ℕ) (t : Turn) → Calls u n d.view → Turned job at d t e → Calls u (n + tag_in t) e.view
+on u job d e at n t c h = calls_append u d.view e.view n (tag_in t) c (step_calls job at d e t h)
 
-  jobs_same : (at : ℕ) (d d' m m' e e' : Moment) (p p' n n' : ℕ) (ts us : List Turn) (l l' : Turn) → Same d d' → Calls (made forms paper w w') n d.view → Calls (made forms paper w w') n' d'.view
+module _ (u u' : View) (enough : (n : ℕ) (x : View) → Calls u n x → x.paper.taken < last_tag) (enough' : (n : ℕ) (x : View) → Calls u' n x → x.paper.taken < last_tag) (job : List ℕ) where
+  jobs_same : (at : ℕ) (d d' m m' e e' : Moment) (p p' n n' : ℕ) (ts us : List Turn) (l l' : Turn) → Same d d' → Calls u n d.view → Calls u' n' d'.view
       → Turns job at d ts p m → Turned job p m l e → is_last l ≡ true → Turns job at d' us p' m' → Turned job p' m' l' e' → is_last l' ≡ true
       → (ts ≡ us) × Same e e'
   jobs_same at d d' m m' e e' p p' n n' [] [] l l' same c c' h s o h' s' o' =
       let a : Turned job at d l e = subst (λ (k : ℕ). Turned job k d l e) h.0 (subst (λ (x : Moment). Turned job p x l e) h.1 s) in
       let b : Turned job at d' l' e' = subst (λ (k : ℕ). Turned job k d' l' e') h'.0 (subst (λ (x : Moment). Turned job p' x l' e') h'.1 s') in
-      (refl, (steps_same job at d d' e e' l l' same (more_tags n d.view c) (more_tags n' d'.view c') a b).1)
-  jobs_same at d d' m m' e e' p p' n n' [] (u ∷ us) l l' same c c' h s o h' s' o' =
+      (refl, (steps_same job at d d' e e' l l' same (enough n d.view c) (enough' n' d'.view c') a b).1)
+  jobs_same at d d' m m' e e' p p' n n' [] (x ∷ us) l l' same c c' h s o h' s' o' =
       let a : Turned job at d l e = subst (λ (k : ℕ). Turned job k d l e) h.0 (subst (λ (x : Moment). Turned job p x l e) h.1 s) in
-      let q = steps_same job at d d' e h'.0 l u same (more_tags n d.view c) (more_tags n' d'.view c') a h'.1 in
+      let q = steps_same job at d d' e h'.0 l x same (enough n d.view c) (enough' n' d'.view c') a h'.1 in
       never (sym h'.2 ∙ sym (ap is_last q.0) ∙ o)
   jobs_same at d d' m m' e e' p p' n n' (t ∷ ts) [] l l' same c c' h s o h' s' o' =
       let b : Turned job at d' l' e' = subst (λ (k : ℕ). Turned job k d' l' e') h'.0 (subst (λ (x : Moment). Turned job p' x l' e') h'.1 s') in
-      let q = steps_same job at d d' h.0 e' t l' same (more_tags n d.view c) (more_tags n' d'.view c') h.1 b in
+      let q = steps_same job at d d' h.0 e' t l' same (enough n d.view c) (enough' n' d'.view c') h.1 b in
       never (sym h.2 ∙ ap is_last q.0 ∙ o')
-  jobs_same at d d' m m' e e' p p' n n' (t ∷ ts) (u ∷ us) l l' same c c' h s o h' s' o' =
-      let q = steps_same job at d d' h.0 h'.0 t u same (more_tags n d.view c) (more_tags n' d'.view c') h.1 h'.1 in
-      let rest : Turns job (place_after t at) h'.0 us p' m' = subst⁻¹ (λ (x : Turn). Turns job (place_after x at) h'.0 us p' m') q.0 h'.3 in
-      let more = jobs_same (place_after t at) h.0 h'.0 m m' e e' p p' (n + tag_in t) (n' + tag_in u) ts us l l' q.1 (on d h.0 at n t c h.1) (on d' h'.0 at n' u c' h'.1) h.3 s o rest s' o' in
-      (ap₂ (λ (x : Turn) (xs : List Turn). x ∷ xs) q.0 more.0, more.1)
+  jobs_same at d d' m m' e e' p p' n n' (t ∷ ts) (x ∷ us) l l' same c c' h s o h' s' o' =
+      let q = steps_same job at d d' h.0 h'.0 t x same (enough n d.view c) (enough' n' d'.view c') h.1 h'.1 in
+      let rest : Turns job (place_after t at) h'.0 us p' m' = subst⁻¹ (λ (y : Turn). Turns job (place_after y at) h'.0 us p' m') q.0 h'.3 in
+      let more = jobs_same (place_after t at) h.0 h'.0 m m' e e' p p' (n + tag_in t) (n' + tag_in x) ts us l l' q.1 (on u job d h.0 at n t c h.1) (on u' job d' h'.0 at n' x c' h'.1) h.3 s o rest s' o' in
+      (ap₂ (λ (y : Turn) (ys : List Turn). y ∷ ys) q.0 more.0, more.1)
+
+  along_same : (at : ℕ) (d d' e e' : Moment) (p p' n n' : ℕ) (ts us : List Turn) → length ts ≡ length us → Same d d' → Calls u n d.view → Calls u' n' d'.view
+      → Turns job at d ts p e → Turns job at d' us p' e' → (ts ≡ us) × (p ≡ p') × Same e e'
+  along_same at d d' e e' p p' n n' [] [] long same c c' h h' =
+      (refl, h.0 ∙ sym h'.0, subst⁻¹ (λ (x : Moment). Same x e') h.1 (subst⁻¹ (λ (x : Moment). Same d x) h'.1 same))
+  along_same at d d' e e' p p' n n' [] (x ∷ us) long same c c' h h' = absurd (omega (arith, long))
+  along_same at d d' e e' p p' n n' (t ∷ ts) [] long same c c' h h' = absurd (omega (arith, long))
+  along_same at d d' e e' p p' n n' (t ∷ ts) (x ∷ us) long same c c' h h' =
+      let q = steps_same job at d d' h.0 h'.0 t x same (enough n d.view c) (enough' n' d'.view c') h.1 h'.1 in
+      let rest : Turns job (place_after t at) h'.0 us p' e' = subst⁻¹ (λ (y : Turn). Turns job (place_after y at) h'.0 us p' e') q.0 h'.3 in
+      let fewer : length ts ≡ length us = omega (arith, long) in
+      let more = along_same (place_after t at) h.0 h'.0 e e' p p' (n + tag_in t) (n' + tag_in x) ts us fewer q.1 (on u job d h.0 at n t c h.1) (on u' job d' h'.0 at n' x c' h'.1) h.3 rest in
+      (ap₂ (λ (y : Turn) (ys : List Turn). y ∷ ys) q.0 more.0, more.1, more.2)
 
 pub one_outcome : OneOutcome
-one_outcome forms paper w w' far job answer work ts us e f a b =
-    let start : Moment = record { view = made forms paper w w'; answer = answer; work = work } in
-    let none : Calls (made forms paper w w') 0 (made forms paper w w') = record { events = []; run = refl; taken = refl } in
-    jobs_same forms paper w w' far job 0 start start a.before b.before e f a.place b.place 0 0 ts us a.last b.last
-    (record { view = refl; answer = refl; work = refl }) none none a.turns a.ending a.over b.turns b.ending b.over
+one_outcome forms paper paper' w w' far far' job answer work =
+    let u = made forms paper w w' in
+    let u' = made forms paper' w w' in
+    let d : Moment = record { view = u; answer = answer; work = work } in
+    let d' : Moment = record { view = u'; answer = answer; work = work } in
+    let none : (v : View) → Calls v 0 v = λ v. record { events = []; run = refl; taken = refl } in
+    let same : Same d d' = record { view = refl; answer = refl; work = refl } in
+    let enough = more_tags forms paper w w' far in
+    let enough' = more_tags forms paper' w w' far' in
+    record {
+      along = λ ts us p q x y long h h'. along_same u u' enough enough' job 0 d d' x y p q 0 0 ts us long same (none u) (none u') h h';
+      whole = λ ts us x y a b. jobs_same u u' enough enough' job 0 d d' a.led.before b.led.before x y a.led.place b.led.place 0 0 ts us a.last b.last same (none u) (none u') a.led.turns a.led.step a.over b.led.turns b.led.step b.over;
+    }

@@ -2,17 +2,10 @@
 --   is_last t         the step t ends the job
 --   place_after t at  the place where the job goes on after the step t at a place
 --   Turns job at d ts p e   the steps ts, none of which ends the job, lead from d at a place to e at the place p
+--   Led job d ts t e  the steps ts from the beginning of the job, none of which ends it, and then the step t lead from d to e
 --   Worked job d ts e the steps ts from the beginning of the job, and then one that ends it, lead from d to e
 --   tags_in ts        the tags that the printer took in the steps
---   Booked f p w v x n   some calls lead from a new station with the forms f, the paper p and the wheels w and v to x; the tag
---                     ledger accounts for every tag before the first call and after each, and has n tags taken at the end
 use Rattle.std.specs.Prelude.{◌≡◌, ℕ, ◌+◌, Bool, true, false, List, [], ◌∷◌}
-use Rattle.texts.specs.Wheels.{Wheels}
-use Rattle.stores.specs.Forms.{Forms}
-use Rattle.printers.specs.Paper.{Paper}
-use Rattle.station.specs.Views.{View, made}
-use Rattle.ledger.specs.Laws.{Event, Throughout, Accounted, fed}
-use Rattle.ledger.specs.Ledgers.{opened}
 use Rattle.jobrun.specs.Turns.{Moment, Turned}
 use Rattle.jobrun.specs.declared.turn.Turn.{Turn}
 use Rattle.jobrun.specs.declared.turn.Turn.TheVariants.{Tag, Done, Refused, Ended, Spent}
@@ -46,15 +39,13 @@ abbrev pub Turns : List ℕ → ℕ → Moment → List Turn → ℕ → Moment 
 Turns job at d [] p e = (p ≡ at) × (e ≡ d)
 Turns job at d (t ∷ ts) p e = (m : Moment) × Turned job at d t m × (is_last t ≡ false) × Turns job (place_after t at) m ts p e
 
-pub record Worked (job : List ℕ) (d : Moment) (ts : List Turn) (e : Moment) : Type 0 where
+pub record Led (job : List ℕ) (d : Moment) (ts : List Turn) (t : Turn) (e : Moment) : Type 0 where
   pub place : ℕ
   pub before : Moment
-  pub last : Turn
   pub turns : Turns job 0 d ts place before
-  pub ending : Turned job place before last e
-  pub over : is_last last ≡ true
+  pub step : Turned job place before t e
 
-pub record Booked (forms : Forms) (paper : Paper) (first second : Wheels) (x : View) (tags : ℕ) : Type 0 where
-  pub calls : List Event
-  pub throughout : Throughout first second (Accounted paper.taken) (opened forms.at) (made forms paper first second) calls x
-  pub taken : (fed first second (opened forms.at) calls).taken ≡ tags
+pub record Worked (job : List ℕ) (d : Moment) (ts : List Turn) (e : Moment) : Type 0 where
+  pub last : Turn
+  pub led : Led job d ts last e
+  pub over : is_last last ≡ true

@@ -1,3 +1,5 @@
 pub mod Turns
 pub mod Jobs
+pub mod Calls
+pub mod Hearing
 pub mod Outcomes

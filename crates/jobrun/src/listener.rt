@@ -1,4 +1,7 @@
 // Whoever wants to hear what a job does while it is done.
+ghost use Rattle.std.specs.Prelude.{ℕ, List, OnOk};
+ghost use Rattle.jobrun.specs.declared.turn.Turn.{Turn as Stepped};
+
 use crate::turn::Turn;
 
 // Kept so: a closure in its place would be a requires of a public call.
@@ -6,6 +9,10 @@ pub trait Listener {
     // Why a listener gives up, which ends the job.
     type Failed;
 
+    // What a listener becomes that hears of a step and of what the work buffer then holds.
+    ghost hears: { Self → Stepped → List ℕ → Self → Type 0 };
+
     // A step was made. After a tag the front of `work` has its line.
-    fn hear(&mut self, turn: &Turn, work: &[u8]) -> Result<(), Self::Failed>;
+    fn hear(&mut self, turn: &Turn, work: &[u8]) -> Result<(), Self::Failed>
+        ensures { OnOk result (hears self.old turn.now work.now self.new) };
 }

@@ -1,8 +1,11 @@
 // A whole job on a new station, with what it prints on its contract.
-ghost use Rattle.std.specs.Prelude.{◌≡◌, ℕ, List, IfOk, MatchResult};
+ghost use Rattle.std.specs.Prelude.{◌≡◌, true, List, IfOk};
 ghost use Rattle.station.specs.Seen.{seen};
 ghost use Rattle.station.specs.Views.{made};
-ghost use Rattle.jobrun.specs.Jobs.{Worked, Booked, tags_in};
+ghost use Rattle.jobrun.specs.Jobs.{Worked, is_last, tags_in};
+ghost use Rattle.jobrun.specs.Calls.{Booked};
+ghost use Rattle.jobrun.specs.Hearing.{HearsFirst};
+ghost use Rattle.jobrun.specs.Outcomes.{OneOutcome};
 ghost use Rattle.jobrun.specs.declared.turn.Turn.{Turn as Stepped};
 
 use crate::listener::Listener;
@@ -14,6 +17,7 @@ use texts::rule::CountingRule;
 
 // Makes a station and works through the job on it. The station comes back as it is then, with the number of tags printed,
 // or with why the listener gave up.
+#[tactic(auto, using(crate::proofs::Steps::begun))]
 pub fn work_through<S: FormStore, P: Printer, R1: CountingRule, R2: CountingRule, L: Listener>(
     store: S,
     printer: P,
@@ -25,7 +29,8 @@ pub fn work_through<S: FormStore, P: Printer, R1: CountingRule, R2: CountingRule
     listener: &mut L,
 ) -> (Station<S, P, R1, R2>, Result<u32, L::Failed>)
     ensures tags { IfOk result.1 (λ tags. (ts : List Stepped) × (tags ≡ tags_in ts) × Worked job.now (record { view = made (S.FormStore.forms store) (P.Printer.paper printer) (R1.CountingRule.wheels first) (R2.CountingRule.wheels second); answer = answer.old; work = work.old }) ts (record { view = seen S.FormStore P.Printer R1.CountingRule R2.CountingRule result.0; answer = answer.new; work = work.new })) }
-    ensures accounted { MatchResult result.1 (λ tags. Booked (S.FormStore.forms store) (P.Printer.paper printer) (R1.CountingRule.wheels first) (R2.CountingRule.wheels second) (seen S.FormStore P.Printer R1.CountingRule R2.CountingRule result.0) tags) (λ _. (tags : ℕ) × Booked (S.FormStore.forms store) (P.Printer.paper printer) (R1.CountingRule.wheels first) (R2.CountingRule.wheels second) (seen S.FormStore P.Printer R1.CountingRule R2.CountingRule result.0) tags) }
+    ensures accounted { (ts : List Stepped) × (t : Stepped) × (b : Booked (S.FormStore.forms store) (P.Printer.paper printer) (R1.CountingRule.wheels first) (R2.CountingRule.wheels second) job.now answer.old work.old ts t (record { view = seen S.FormStore P.Printer R1.CountingRule R2.CountingRule result.0; answer = answer.new; work = work.new })) × (heard : L) × HearsFirst L.Listener.hears b.led listener.old heard × IfOk result.1 (λ tags. (tags ≡ tags_in ts) × (is_last t ≡ true) × L.Listener.hears heard t work.new listener.new) }
+    ensures one_outcome { OneOutcome }
 {
     let mut station = Station::new(store, printer, first, second);
     let mut at = 0;

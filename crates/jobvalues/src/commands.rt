@@ -1,8 +1,8 @@
-// What a command is, and the checks of its field.
+// The letters of a command, and the checks of its field.
 ghost use Rattle.std.specs.Prelude.{◌≡◌};
-ghost use Rattle.jobparts.specs.Slots.{slot_of, option_slot};
+ghost use Rattle.jobparts.specs.Slots.{option_slot};
 ghost use Rattle.jobgroups.specs.Commands.{plain_of};
-ghost use Rattle.jobvalues.specs.Meaning.{is_label, text_check_of, bar_check_of};
+ghost use Rattle.jobvalues.specs.Meaning.{text_check_of, bar_check_of};
 
 use jobgroups::command::Command;
 use jobgroups::letters::Letters;
@@ -33,24 +33,6 @@ pub fn letters<'a>(command: Command<'a>) -> Letters
     }
 }
 
-// Whether a command acts on the label alone, so that it can be saved in a form.
-pub fn is_label_command(letters: Letters) -> bool
-    ensures { result ≡ is_label letters }
-{
-    matches!(
-        letters,
-        Letters::D
-            | Letters::C
-            | Letters::Pc
-            | Letters::Xb
-            | Letters::RcLinks
-            | Letters::Rc
-            | Letters::Rb
-            | Letters::Lc
-            | Letters::Xr
-    )
-}
-
 // The check of a text field, by the figure behind M.
 pub fn text_check<'a>(figure: Option<Part<'a>>) -> Check
     ensures { result ≡ text_check_of (option_slot figure.entry) }
@@ -64,7 +46,7 @@ pub fn text_check<'a>(figure: Option<Part<'a>>) -> Check
 
 // The check of a bar field.
 pub fn bar_check<'a>(check: Part<'a>) -> Check
-    ensures { result ≡ bar_check_of (slot_of check.entry) }
+    ensures { result ≡ bar_check_of check.entry.bytes.now }
 {
     match check.number() {
         3 => Check::Modulus43,

@@ -1,4 +1,4 @@
-// What the parts of a command mean to the layers above: numbers, steps, checks, links and strings.
+// What the parts of a command mean to the layers above: numbers, steps, zero suppression, checks, texts, links and link strings.
 #![tactic(auto)]
 
 pub mod commands;

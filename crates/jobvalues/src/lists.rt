@@ -1,26 +1,40 @@
-// The elements of link numbers and of link strings.
-ghost use Rattle.std.specs.Prelude.{◌≡◌};
-ghost use Rattle.jobvalues.specs.Meaning.{link_of, string_of};
+// Texts, and what commas part: link strings, and the numbers of link strings.
+ghost use Rattle.std.specs.Prelude.{◌≡◌, map};
+ghost use Rattle.texts.specs.Contents.{contents};
+ghost use Rattle.fields.specs.Records.{seen_links};
+ghost use Rattle.jobvalues.specs.Meaning.{text_of, links_of, strings_of};
 
-use jobparts::bytes::{first, rest_at};
-use jobparts::values::number_of;
+use crate::numbers::small;
+use fields::links::Links;
+use texts::text::Text;
 
-// Kept so: these two answer one element of a list; a label takes all of them in one pass.
-
-// The number of the link string that a field joins at a place of its list, counted from 0.
-pub fn link_of(links: &[u8], k: usize) -> Option<u64>
-    ensures { result ≡ link_of k links.now }
+// Bytes that are no text are the empty text.
+pub fn text_of(bytes: &[u8]) -> Text
+    ensures { contents result ≡ text_of bytes.now }
 {
-    links
-        .chunks(3)
-        .take(4)
-        .nth(k)
-        .map(|link| number_of(first(link, 2)))
+    Text::from_bytes(bytes).unwrap_or_else(|_| Text::empty())
 }
 
-// The link string at a place of a list, counted from 0; one that was not sent is empty.
-pub fn string_of<'a>(strings: &'a [u8], k: usize) -> &'a [u8]
-    ensures { result.now ≡ string_of k strings.now }
+// The links of a field, in their order; a number that no link string has is left out.
+pub fn links_of(bytes: &[u8]) -> Links
+    ensures { seen_links result ≡ links_of bytes.now }
 {
-    strings.split(|b| *b == b',').nth(k).unwrap_or(&[])
+    let mut links = Links::none();
+    for number in bytes.split(|b| *b == b',').take(4) {
+        let _ = links.push(small(number));
+    }
+    links
+}
+
+// Kept so: over iter_mut().zip(..) the loop can not name what was written.
+// The eight link strings; one that was not sent is empty. (Not inlined, so that other commands do not make room for them.)
+#[inline(never)]
+pub fn strings_of(bytes: &[u8]) -> [Text; 8]
+    ensures { map contents result ≡ strings_of bytes.now }
+{
+    let mut strings = [Text::empty(); 8];
+    for (k, string) in bytes.split(|b| *b == b',').take(8).enumerate() {
+        strings[k] = text_of(string);
+    }
+    strings
 }

@@ -1,55 +1,54 @@
-// The numbers that parts and options write.
-ghost use Rattle.std.specs.Prelude.{◌≡◌, pos, neg_ℤ};
-ghost use Rattle.jobparts.specs.Values.{number_of};
+// The numbers that parts and options write. A reader lets no part through that has no meaning; here all bytes have one.
+ghost use Rattle.std.specs.Prelude.{◌≡◌, ◌≤◌};
 ghost use Rattle.jobparts.specs.Slots.{option_slot};
-ghost use Rattle.jobvalues.specs.Meaning.{step_size, step_of, step_option, zeros_option};
+ghost use Rattle.jobvalues.specs.Meaning.{up_to, figure, small, signed, step_of, kept_of};
 
-use jobgroups::checks::first_byte;
-use jobparts::bytes::rest_at;
+use jobparts::bytes::{rest_at, stands_at};
 use jobparts::part::Part;
 use jobparts::values::number_of;
 
-// Ten digits write less than this.
-const TEN_DIGITS: u64 = 10_000_000_000;
+// The highest step, of ten digits.
+const HIGHEST_STEP: u64 = 9_999_999_999;
 
-// The number of a numeric part.
-pub fn number<'a>(part: Part<'a>) -> u64
-    ensures { result ≡ number_of part.entry.bytes.now }
+fn up_to(bytes: &[u8], high: u64) -> u64
+    ensures value { result ≡ up_to high bytes.now }
+    ensures within { result ≤ high }
 {
-    part.number()
+    number_of(bytes).min(high)
 }
 
-// The ten digits behind a sign.
-// Kept so: the label's step stops at ten nines. The two differ on bytes that are no digits, and both are promises that have to stand.
-fn step_size(bytes: &[u8]) -> u64
-    ensures { result ≡ step_size bytes.now }
+// A number of up to four digits: a size or a place in tenths of a millimetre, dots, or labels.
+pub fn figure(bytes: &[u8]) -> u16
+    ensures { result ≡ figure bytes.now }
 {
-    number_of(rest_at(bytes, 1)) % TEN_DIGITS
+    up_to(bytes, 9999) as u16
 }
 
-// The signed number of a step.
-pub fn step_of(bytes: &[u8]) -> i64
-    ensures { result ≡ step_of bytes.now }
+// A number of up to two digits.
+pub fn small(bytes: &[u8]) -> u8
+    ensures { result ≡ small bytes.now }
 {
-    let size = step_size(bytes) as i64;
-    if first_byte(bytes) == b'-' {
-        -size
-    } else {
-        size
-    }
+    up_to(bytes, 99) as u8
 }
 
-// The step of a format; 0 where it is left out.
-pub fn step<'a>(part: Option<Part<'a>>) -> i64
-    ensures { result ≡ step_option (option_slot part.entry) }
+// A sign and ten digits.
+fn signed(bytes: &[u8]) -> i64
+    ensures { result ≡ signed bytes.now }
 {
-    part.map_or(0, |step| step_of(step.bytes))
+    let n = up_to(rest_at(bytes, 1), HIGHEST_STEP) as i64;
+    if stands_at(bytes, 0, b'-') { -n } else { n }
 }
 
-// How many places zero suppression leaves; nothing where it is left out.
-// Kept so: the label takes two digits as a u8, and this promises any number of a part, which has to stand.
-pub fn zeros<'a>(part: Option<Part<'a>>) -> Option<u64>
-    ensures { result ≡ zeros_option (option_slot part.entry) }
+// A step that is not given is 0.
+pub fn step_of(step: Option<Part<'_>>) -> i64
+    ensures { result ≡ step_of (option_slot step.entry) }
 {
-    part.map(|places| places.number())
+    step.map_or(0, |part| signed(part.bytes))
+}
+
+// The places that zero suppression keeps.
+pub fn kept_of(zeros: Option<Part<'_>>) -> Option<u8>
+    ensures { result ≡ kept_of (option_slot zeros.entry) }
+{
+    zeros.map(|part| small(part.bytes))
 }

@@ -4,8 +4,6 @@
 --   action_of c  the action of a command as it was read; none, where it is no label command
 -- A field's text or its links come from one part: `source_text` and `source_links` say which.
 use Rattle.std.specs.Prelude.{ℕ, cond, List, [], Some, None, Option, ◌==◌, nat_eq, slice_index_or}
-use Rattle.texts.specs.declared.checks.Check.{Check}
-use Rattle.texts.specs.declared.checks.Check.TheVariants.{NoCheck, Modulus10, Modulus43}
 use Rattle.fields.specs.Records.{Layout}
 use Rattle.fields.specs.declared.format.Kind.{Kind}
 use Rattle.fields.specs.declared.format.Kind.TheVariants.{Text, Code39, Code128}
@@ -17,10 +15,10 @@ use Rattle.picture.specs.declared.drawing.Point.{Point}
 use Rattle.jobparts.specs.Kinds.{stands}
 use Rattle.jobparts.specs.Slots.{Slot, missing, given, linked, bytes_of}
 use Rattle.jobparts.specs.Values.{number_of}
+use Rattle.jobvalues.specs.Meaning.{figure, small, step_of, kept_of, text_of, links_of, strings_of, text_check_of, bar_check_of}
 use Rattle.jobgroups.specs.Commands.{Plain}
 use Rattle.jobgroups.specs.declared.letters.Letters.{Letters}
 use Rattle.jobgroups.specs.declared.letters.Letters.TheVariants.{D, C, Pc, Xb, RcLinks, Rc, Rb, Lc, Xr, Xs, Xo, Xp, Xq, J1, Ws, Wr}
-use Rattle.label.specs.Values.{figure, small, step_of, kept_of, text_of, links_of, strings_of}
 
 pub data Action : Type 0 where
   set_size : ℕ → ℕ → ℕ → Action
@@ -36,16 +34,6 @@ part k ps = slice_index_or ps k missing
 
 abbrev pub bytes : ℕ → List Slot → List ℕ
 bytes k ps = bytes_of (part k ps)
-
--- `,M0` is modulus 10, `,M1` modulus 43
-abbrev pub figure_check : Slot → Check
-figure_check missing = NoCheck
-figure_check (given p bs) = cond (number_of bs == 0) Modulus10 Modulus43
-figure_check (linked p bs) = cond (number_of bs == 0) Modulus10 Modulus43
-
--- a bar's check is 1 for none and 3 for modulus 43
-abbrev pub bar_check : List ℕ → Check
-bar_check bs = cond (number_of bs == 3) Modulus43 NoCheck
 
 -- a bar's type is 3 or 9
 abbrev pub bar_kind : List ℕ → Kind
@@ -63,11 +51,11 @@ source_links (linked p bs) = links_of bs
 
 abbrev pub text_layout : List Slot → Layout
 text_layout ps =
-    record { x = figure (bytes 1 ps); y = figure (bytes 2 ps); check = figure_check (part 8 ps); step = step_of (part 9 ps); kept = kept_of (part 10 ps); links = source_links (part 11 ps); kind = Text }
+    record { x = figure (bytes 1 ps); y = figure (bytes 2 ps); check = text_check_of (part 8 ps); step = step_of (part 9 ps); kept = kept_of (part 10 ps); links = source_links (part 11 ps); kind = Text }
 
 abbrev pub bar_layout : List Slot → Layout
 bar_layout ps =
-    record { x = figure (bytes 1 ps); y = figure (bytes 2 ps); check = bar_check (bytes 4 ps); step = step_of (part 12 ps); kept = kept_of (part 13 ps); links = source_links (part 14 ps); kind = bar_kind (bytes 3 ps) }
+    record { x = figure (bytes 1 ps); y = figure (bytes 2 ps); check = bar_check_of (bytes 4 ps); step = step_of (part 12 ps); kept = kept_of (part 13 ps); links = source_links (part 14 ps); kind = bar_kind (bytes 3 ps) }
 
 -- the two places of a drawing, which are its first four parts
 abbrev pub corner : List Slot → Point

@@ -23,7 +23,7 @@ use Rattle.fields.specs.declared.fault.FieldFault.{FieldFault}
 use Rattle.fields.specs.declared.fault.FieldFault.TheVariants.{NoFormat, FieldLinked, JoinedTooLong, OutsideCheck}
 use Rattle.picture.specs.Picture.{white, picture}
 use Rattle.picture.specs.declared.drawing.Drawing.{Drawing}
-use Rattle.label.specs.Values.{strings_of}
+use Rattle.jobvalues.specs.Meaning.{strings_of}
 use Rattle.label.specs.Actions.{Action, set_size, clear, set_format, set_text, set_links, draw}
 use Rattle.label.specs.declared.action.Action.{Action as Asked}
 use Rattle.label.specs.declared.action.Action.TheVariants.{SetSize, Clear, SetFormat, SetText, SetLinks, Draw}

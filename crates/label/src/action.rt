@@ -7,10 +7,11 @@ ghost use Rattle.label.specs.Labels.{seen_action_of};
 use crate::formats::{bar_format, source_text, text_format};
 use crate::label::Sizes;
 use crate::shapes::{area_drawing, line_drawing};
-use crate::values::{figure, small, text_of};
 use fields::format::Format;
 use fields::table::FieldName;
 use jobgroups::command::Command;
+use jobvalues::lists::text_of;
+use jobvalues::numbers::{figure, small};
 use picture::drawing::Drawing;
 use texts::text::Text;
 

@@ -7,14 +7,14 @@ ghost use Rattle.jobgroups.specs.Commands.{plain_of};
 ghost use Rattle.jobgroups.specs.declared.command.Command.TheVariants.{FormatText, FormatBar};
 ghost use Rattle.label.specs.Actions.{bar_kind, source_text, source_links, text_layout, bar_layout};
 
-use crate::lists::links_of;
-use crate::values::{figure, kept_of, step_of, text_of};
 use fields::format::{Format, Kind};
 use fields::links::Links;
 use jobgroups::command::{BarFormat, TextFormat};
 use jobparts::part::Source;
 use jobparts::values::number_of;
 use jobvalues::commands::{bar_check, text_check};
+use jobvalues::lists::{links_of, text_of};
+use jobvalues::numbers::{figure, kept_of, step_of};
 use texts::text::Text;
 
 // The type of a bar: 3 or 9.

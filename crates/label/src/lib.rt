@@ -6,6 +6,4 @@ mod drawings;
 pub mod fault;
 mod formats;
 pub mod label;
-mod lists;
 mod shapes;
-pub mod values;

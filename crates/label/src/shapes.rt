@@ -4,9 +4,9 @@ ghost use Rattle.jobgroups.specs.Commands.{point_slots, plain_of};
 ghost use Rattle.jobgroups.specs.declared.command.Command.TheVariants.{DrawLine, MarkArea};
 ghost use Rattle.label.specs.Actions.{corner, line, line_drawing, area_drawing};
 
-use crate::values::figure;
 use jobgroups::command::{Area, Line};
 use jobparts::bytes::stands_at;
+use jobvalues::numbers::figure;
 use picture::drawing::{Drawing, Point};
 
 // Kept so: a From stands with one of its two types, and both are of lower crates; so for all that this crate reads of a command.

@@ -89,7 +89,20 @@ fn links_are_joined(rt: HostRuntime) -> Result<(), Fail> {
     does(&mut label, b"\x1bRC;A,B\n\0")?;
     prints(&rt, &label, b"0001,0002,T01,0100,0050,BA\n")?;
     does(&mut label, b"\x1bRC;A\n\0")?;
-    prints(&rt, &label, b"0001,0002,T01,0100,0050,A\n")
+    prints(&rt, &label, b"0001,0002,T01,0100,0050,A\n")?;
+    // A string that is named twice is joined twice, into a bar too; a field that is not linked stays.
+    does(
+        &mut label,
+        b"\x1bXB02;0200,0060,9,1,02,02,02,02,02,0,0100;02,02\n\0\x1bPC003;0100,0070,1,1,A,00,B=X\n\0\x1bRC;A,B\n\0",
+    )?;
+    prints(
+        &rt,
+        &label,
+        b"0001,0002,T01,0100,0050,BA,T03,0100,0070,X,B02,0200,0060,BB\n",
+    )?;
+    // A joined text that is empty is no text.
+    does(&mut label, b"\x1bRC;\n\0")?;
+    prints(&rt, &label, b"0001,0002,T03,0100,0070,X\n")
 }
 
 #[test]
@@ -100,7 +113,12 @@ fn refusals(rt: HostRuntime) -> Result<(), Fail> {
         &mut label,
         b"\x1bPC001;0100,0050,1,1,A,00,B;01,02\n\0\x1bRC;A\n\0\x1bPC002;0100,0050,1,1,A,00,B,M0=41\n\0",
     )?;
+    does(
+        &mut label,
+        b"\x1bPC004;0100,0050,1,1,A,00,B,M0;01\n\0\x1bXB01;0200,0060,3,3,02,02,02,02,02,0,0100\n\0",
+    )?;
     refuses(&rt, &mut label, b"\x1bRC001;X\n\0", Refusal::FieldLinked);
+    refuses(&rt, &mut label, b"\x1bRC004;X\n\0", Refusal::FieldLinked);
     refuses(
         &rt,
         &mut label,
@@ -108,15 +126,27 @@ fn refusals(rt: HostRuntime) -> Result<(), Fail> {
         Refusal::JoinedTooLong,
     );
     refuses(&rt, &mut label, b"\x1bRC002;AB\n\0", Refusal::OutsideCheck);
+    // Field 4 refuses the string, so field 1 does not get it either.
+    refuses(&rt, &mut label, b"\x1bRC;X\n\0", Refusal::OutsideCheck);
+    refuses(&rt, &mut label, b"\x1bRB01;a\n\0", Refusal::OutsideCheck);
     refuses(
         &rt,
         &mut label,
         b"\x1bPC002;0100,0050,1,1,A,00,B,M0=AB\n\0",
         Refusal::OutsideCheck,
     );
-    for _ in 0..24 {
-        does(&mut label, b"\x1bLC;0010,0020,0010,0020,0,1\n\0")?;
+    for _ in 0..12 {
+        does(
+            &mut label,
+            b"\x1bLC;0010,0020,0010,0020,0,1\n\0\x1bXR;0010,0020,0010,0020,B\n\0",
+        )?;
     }
+    refuses(
+        &rt,
+        &mut label,
+        b"\x1bLC;0010,0020,0010,0020,0,1\n\0",
+        Refusal::TooManyDrawings,
+    );
     refuses(
         &rt,
         &mut label,

@@ -8,8 +8,8 @@ use Rattle.jobgroups.specs.declared.letters.Letters.{Letters}
 use Rattle.jobgroups.specs.declared.letters.Letters.TheVariants.{D, C, Pc, Xb, RcLinks, Rc, Rb, Lc, Xr, Xs, Xo, Xp, Xq, J1, Ws, Wr}
 use Rattle.job.specs.Reading.{answer_of, next_of, read_at as read_job}
 use Rattle.job.specs.declared.fault.ReadFault.{ReadFault}
-use Rattle.label.specs.Actions.{action_for, part, bytes, figure_check, source_text, source_links}
-use Rattle.label.specs.Values.{step_of, kept_of}
+use Rattle.jobvalues.specs.Meaning.{step_of, kept_of, text_check_of}
+use Rattle.label.specs.Actions.{action_for, part, bytes, source_text, source_links}
 use Rattle.station.specs.Reads.{read_at, next_at}
 use Rattle.station.specs.Requests.{request_of, request_by, other_request}
 use Rattle.ledger.proofs.Readers.{Whole, Located, Cut, Reader}
@@ -30,10 +30,10 @@ module _ (k : ℕ) (ps : List Slot) where
       go (given p bs) = refl
       go (linked p bs) = refl
 
-  check_at : (n : ℕ) → figure_check (part n moved) ≡ figure_check (part n ps)
-  check_at n = ap figure_check (get_or-map (shift_slot k) ps n missing) ∙ go (part n ps)
+  check_at : (n : ℕ) → text_check_of (part n moved) ≡ text_check_of (part n ps)
+  check_at n = ap text_check_of (get_or-map (shift_slot k) ps n missing) ∙ go (part n ps)
     where
-      go : (s : Slot) → figure_check (shift_slot k s) ≡ figure_check s
+      go : (s : Slot) → text_check_of (shift_slot k s) ≡ text_check_of s
       go missing = refl
       go (given p bs) = refl
       go (linked p bs) = refl

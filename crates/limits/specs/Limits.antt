@@ -25,6 +25,20 @@ largest_total = 20480
 abbrev pub last_form : ℕ
 last_form = 20
 
+-- text fields and bar fields of a label; both are numbered from 1
+abbrev pub text_fields : ℕ
+text_fields = 16
+
+abbrev pub bar_fields : ℕ
+bar_fields = 8
+
+-- links of one field, and link strings, which are numbered from 1
+abbrev pub most_links : ℕ
+most_links = 4
+
+abbrev pub last_link : ℕ
+last_link = 8
+
 -- bytes of a finished tag's line
 abbrev pub longest_line : ℕ
 longest_line = 1354

@@ -17,6 +17,16 @@ pub const LARGEST_TOTAL: usize = 20_480;
 
 pub const LAST_FORM: u8 = 20;
 
+// Text fields and bar fields of a label; both are numbered from 1.
+pub const TEXT_FIELDS: usize = 16;
+
+pub const BAR_FIELDS: usize = 8;
+
+// Links of one field, and link strings, which are numbered from 1.
+pub const MOST_LINKS: usize = 4;
+
+pub const LAST_LINK: u8 = 8;
+
 // Bytes of a finished tag's line.
 pub const LONGEST_LINE: usize = 1354;
 

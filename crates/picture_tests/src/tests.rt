@@ -89,6 +89,25 @@ fn lines(rt: HostRuntime) -> Result<(), Fail> {
             byte: 1,
         },
     )?;
+    // A thick point: column 16, rows 8 to 10.
+    let thick = [Drawing::Level {
+        y: 10,
+        from: 20,
+        to: 20,
+        thick: 3,
+    }];
+    shows(
+        &rt,
+        heap,
+        &thick,
+        LARGEST,
+        Look {
+            black: 3,
+            row: 10,
+            place: 2,
+            byte: 128,
+        },
+    )?;
     // Rows 8 and 9, columns 16 to 32.
     let level = [Drawing::Level {
         y: 10,

@@ -8,7 +8,7 @@ use Rattle.jobgroups.specs.Commands.{Plain}
 use Rattle.jobgroups.specs.declared.letters.Letters.{Letters}
 use Rattle.jobgroups.specs.declared.letters.Letters.TheVariants.{D, C, Pc, Xb, RcLinks, Rc, Rb, Lc, Xr, Xs, Xo, Xp, Xq, J1, Ws, Wr}
 use Rattle.label.specs.Actions.{Action, action_of, bytes}
-use Rattle.label.specs.Values.{figure, small}
+use Rattle.jobvalues.specs.Meaning.{figure, small}
 
 pub data Request : Type 0 where
   on_label : Action → Request

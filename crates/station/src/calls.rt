@@ -8,10 +8,9 @@ ghost use Rattle.station.specs.Steps.{Reloaded, Commanded, commanded, answer_aft
 ghost use Rattle.station.specs.Views.{made};
 
 use crate::mode::Mode;
-use crate::printing::unplaced;
 use crate::state::Station;
 use crate::status::ANSWER_BYTES;
-use faults::{Fault, Refusal};
+use faults::{Fault, Refusal, unplaced};
 use job::read::{open, read};
 use jobparts::bytes::{first, rest_at};
 use label::label::Label;

@@ -1,27 +1,15 @@
 // Printing a tag.
-ghost use Rattle.std.specs.Prelude.{◌≡◌, length};
+ghost use Rattle.std.specs.Prelude.{◌≡◌, length, IfOk};
 ghost use Rattle.station.specs.Seen.{seen, doing_of};
-ghost use Rattle.station.specs.Steps.{Printing, print_fault, print_work, next_line, one_less, fault_at};
+ghost use Rattle.station.specs.Steps.{Printing, print_fault, print_work, next_line, one_less};
 
 use crate::calls::WORK_BYTES;
 use crate::mode::{Issue, Mode};
 use crate::state::Station;
-use faults::{Fault, Refusal};
+use faults::{Fault, Refusal, unplaced};
 use printers::printer::Printer;
 use stores::store::FormStore;
 use texts::rule::CountingRule;
-
-// A fault outside commands, which has no place.
-pub(crate) fn unplaced(refusal: Refusal) -> Fault
-    ensures { result ≡ fault_at refusal 0 0 0 }
-{
-    Fault {
-        refusal,
-        form: 0,
-        place: 0,
-        next: 0,
-    }
-}
 
 // What is owed after one label more.
 fn one_less(issue: Issue) -> Mode
@@ -41,6 +29,7 @@ impl<S: FormStore, P: Printer, R1: CountingRule, R2: CountingRule> Station<S, P,
     // Hands the printer one tag's line and, only if it was taken, turns every text by its step; answers the line's length.
     pub fn print(&mut self, work: &mut [u8]) -> Result<usize, Fault>
         ensures step { Printing (seen S.FormStore P.Printer R1.CountingRule R2.CountingRule self.old) (length work.old) result (seen S.FormStore P.Printer R1.CountingRule R2.CountingRule self.new) }
+        ensures stock { IfOk result (λ _. (P.Printer.paper self.new.printer).left ≡ P.Printer.worn self.old.printer (next_line (seen S.FormStore P.Printer R1.CountingRule R2.CountingRule self.old))) }
         ensures work { work.new ≡ print_work (print_fault (seen S.FormStore P.Printer R1.CountingRule R2.CountingRule self.old) (length work.old)) (next_line (seen S.FormStore P.Printer R1.CountingRule R2.CountingRule self.old)) work.old }
     {
         if work.len() < WORK_BYTES {

@@ -5,7 +5,7 @@ ghost use Rattle.station.specs.Asking.{asked_of};
 ghost use Rattle.station.specs.Requests.{request_of};
 
 use jobgroups::command::Command;
-use label::values::{figure, small};
+use jobvalues::numbers::{figure, small};
 
 // A request without what it asks of the label, which the label takes from the command itself.
 // Kept so: what a station is doing is matched together with what is asked of it, and a closure could not be matched.

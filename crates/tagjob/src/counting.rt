@@ -1,5 +1,5 @@
 // How many tags a job prints, for whoever does not want to hear of them one by one.
-ghost use Rattle.std.specs.Prelude.{◌≡◌};
+ghost use Rattle.std.specs.Prelude.{◌≡◌, ⊤};
 ghost use Rattle.tagjob.specs.Printing.{Told};
 
 use crate::running::run_job;
@@ -13,6 +13,8 @@ struct Silence;
 
 impl Listener for Silence {
     type Failed = Infallible;
+
+    ghost hears = { λ _ _ _ _. ⊤ };
 
     fn hear(&mut self, _turn: &Turn, _work: &[u8]) -> Result<(), Infallible> {
         Ok(())

@@ -1,5 +1,6 @@
 // Doing a job.
 ghost use Rattle.std.specs.Prelude.{◌≡◌, IfOk};
+ghost use Rattle.jobrun.specs.Hearing.{Heard};
 ghost use Rattle.tagjob.specs.Printing.{Told};
 
 use jobrun::listener::Listener;
@@ -11,14 +12,15 @@ use texts::digits::{Code128Rule, PlainRule};
 // The tags of a roll. What a job prints does not depend on it.
 const ROLL: u64 = 500;
 
-// Does a job on a new station, as the program `tagrun` does; tells how many tags it printed, or why the listener gave up.
+// Does a job on a new station, as the program `tagrun` does; tells how many tags it printed, each of which the listener heard of, or why
+// the listener gave up.
 pub fn run_job<L: Listener>(
     job: &[u8],
     answer: &mut [u8],
     work: &mut [u8],
     listener: &mut L,
 ) -> Result<u32, L::Failed>
-    ensures { IfOk result (λ tags. Told job.now answer.old work.old tags answer.new work.new) }
+    ensures { IfOk result (λ tags. (t : Told job.now answer.old work.old tags answer.new work.new) × Heard L.Listener.hears t.booked.led listener.old listener.new) }
 {
     let Ok(roll) = Roll::new(ROLL) else {
         unreachable!()

@@ -1,15 +1,14 @@
 -- No line is longer than the longest line: a head of 9 bytes, 24 pieces of at most 56, and LF.
-use Rattle.std.proofs.Common.{◌≡◌, ℕ, zero, suc, ◌+◌, ◌-◌, ◌*◌, ◌≤◌, Bool, true, false, cond, eqb, leb, List, [], ◌∷◌, ◌++◌, map, length, replicate, pos, Some, None, Option, refl, ap, arith, length-append}
+use Rattle.std.proofs.Common.{◌≡◌, ℕ, zero, suc, ◌+◌, ◌-◌, ◌*◌, ◌≤◌, Bool, true, false, cond, eqb, leb, List, [], ◌∷◌, ◌++◌, map, length, Some, None, Option, refl, ap, arith, length-append}
 use Rattle.limits.specs.Limits.{longest_text, longest_finished, longest_line}
 use Rattle.texts.specs.Checks.{check_character}
 use Rattle.texts.specs.Finishing.{blanked, suppressed, finished_text}
 use Rattle.texts.specs.declared.checks.Check.{Check}
 use Rattle.texts.specs.declared.checks.Check.TheVariants.{NoCheck, Modulus10, Modulus43}
-use Rattle.fields.specs.Counts.{text_fields, bar_fields}
+use Rattle.limits.specs.Limits.{text_fields, bar_fields}
 use Rattle.fields.specs.Records.{Layout, Slot, seen_field}
 use Rattle.fields.specs.Tables.{Table}
 use Rattle.fields.specs.declared.field.Field.{Field}
-use Rattle.fields.specs.declared.format.Kind.TheVariants.{Text as TextKind}
 use Rattle.tagline.specs.Line.{piece_head, piece_of, piece, pieces_from, pieces, line_head, line_of, letter_t, letter_b, longest_piece, ShortSlots}
 
 length_blanked : (n : ℕ) (t : List ℕ) → length (blanked n t) ≡ length t
@@ -67,10 +66,3 @@ pub seen_short : (fields : List Field) → ShortSlots (map seen_field fields)
 seen_short [] = tt
 seen_short (f ∷ fs) =
     (f.text.plain.short, seen_short fs)
-
--- and the bound is met: a field with a full text and a check character, everywhere
-abbrev full : Slot
-full = record { format = Some (record { x = 0; y = 0; check = Modulus43; step = pos 0; kept = None; links = []; kind = TextKind }); text = replicate longest_text 65 }
-
-pub line_met : length (line_of 1 1 (record { texts = replicate text_fields full; bars = replicate bar_fields full })) ≡ longest_line
-line_met = refl

@@ -2,7 +2,7 @@
 // front of what it is lent, and answers how many bytes it wrote.
 ghost use Rattle.std.specs.Prelude.{◌≡◌, ◌+◌, ◌*◌, ◌≤◌, ◌++◌, map, length, take, drop, Some};
 ghost use Rattle.limits.specs.Limits.{longest_line};
-ghost use Rattle.fields.specs.Counts.{text_fields, bar_fields};
+ghost use Rattle.limits.specs.Limits.{text_fields, bar_fields};
 ghost use Rattle.fields.specs.Records.{seen_field};
 ghost use Rattle.fields.specs.Tables.{seen_fields};
 ghost use Rattle.tagline.specs.Line.{piece_head, piece, longest_piece, pieces_from, line_head, line_over, line_of, Put, Written};
@@ -88,10 +88,13 @@ fn put_line(out: &mut [u8], number: u16, size: u16, texts: &[Field], bars: &[Fie
 // Writes the line of a label's finished tag into the front of `work`, and answers its length; none where `work` could not
 // hold the longest line.
 pub fn write_line(fields: &Fields, number: u16, size: u16, work: &mut [u8]) -> Option<usize>
-    ensures { Written (line_of number size (seen_fields fields.now)) work.old work.new result }
+    ensures written { Written (line_of number size (seen_fields fields.now)) work.old work.new result }
+    ensures short { length (line_of number size (seen_fields fields.now)) ≤ longest_line }
 {
+    let texts = fields.texts();
+    let bars = fields.bars();
     if work.len() < LONGEST_LINE {
         return None;
     }
-    Some(put_line(work, number, size, fields.texts(), fields.bars()))
+    Some(put_line(work, number, size, texts, bars))
 }

@@ -1,7 +1,12 @@
 // Does a job of standard input on a new station, and writes every tag's line and every refusal.
 #![tactic(auto)]
 
-use faults::Refusal;
+ghost use Rattle.std.specs.Prelude.{◌≡◌, ◌==◌};
+ghost use Rattle.faults.specs.Numbers.{number_of};
+ghost use Rattle.std.specs.Io.KnownBytes.{Appends};
+ghost use Rattle.tagrun.specs.Writing.{written_for};
+
+use faults::{Fault, Refusal};
 use jobparts::bytes::first;
 use jobrun::listener::Listener;
 use jobrun::turn::Turn;
@@ -9,6 +14,13 @@ use std::io;
 use std::io::{BufWriter, Read, Write};
 use tagjob::running::run_job;
 use tagjob::telling::refusal_line;
+
+// Whether a fault is the job's end, which is not written.
+fn is_end(fault: &Fault) -> bool
+    ensures { result ≡ (number_of fault.now.refusal == 3) }
+{
+    fault.refusal == Refusal::JobEnd
+}
 
 // Writes what a job does.
 #[derive(Drop)]
@@ -19,12 +31,20 @@ struct Report<W> {
 impl<W: Write> Listener for Report<W> {
     type Failed = io::Error;
 
+    ghost hears = { λ r turn work s. Appends (W.contents r.out) (W.contents s.out) (written_for turn work) };
+
+    #[tactic(auto, using(crate::proofs::Lines::nothing))]
     fn hear(&mut self, turn: &Turn, work: &[u8]) -> io::Result<()> {
         match turn {
             Turn::Tag(n) => self.out.write_all(first(work, *n)),
-            // The job's end is a fault that is not written.
-            Turn::Ended(fault) if fault.refusal == Refusal::JobEnd => Ok(()),
-            Turn::Refused(fault) | Turn::Ended(fault) => self.out.write_all(&refusal_line(fault)),
+            Turn::Refused(fault) => self.out.write_all(&refusal_line(fault)),
+            Turn::Ended(fault) => {
+                if is_end(fault) {
+                    Ok(())
+                } else {
+                    self.out.write_all(&refusal_line(fault))
+                }
+            }
             Turn::Done(_) | Turn::Spent(_) => Ok(()),
         }
     }

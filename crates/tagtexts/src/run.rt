@@ -34,7 +34,7 @@ fn print_texts<R: CountingRule>(rt: &HostRuntime, rule: &R, order: &Order) -> io
     out.flush()
 }
 
-pub fn print_run(rt: &HostRuntime, number: u64, order: &Order) -> io::Result<()> {
+pub(crate) fn print_run(rt: &HostRuntime, number: u64, order: &Order) -> io::Result<()> {
     let count = order.count;
     println!(rt; "line {number}: {count} texts")?;
     match order.rule {

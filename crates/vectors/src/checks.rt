@@ -44,7 +44,7 @@ fn run_table(rt: &HostRuntime, name: &str, check: Check, table: &[(&str, u8)]) -
     Ok(())
 }
 
-pub fn run_all(rt: &HostRuntime) -> io::Result<()> {
+pub(crate) fn run_all(rt: &HostRuntime) -> io::Result<()> {
     run_table(rt, "modulus 10", Check::Modulus10, &GS1)?;
     run_table(rt, "modulus 43", Check::Modulus43, &CODE_39)
 }

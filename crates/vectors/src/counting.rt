@@ -127,7 +127,7 @@ fn run_table<R: CountingRule>(
     Ok(())
 }
 
-pub fn run_all(rt: &HostRuntime) -> io::Result<()> {
+pub(crate) fn run_all(rt: &HostRuntime) -> io::Result<()> {
     run_table(rt, "plain", &PlainRule, &PLAIN)?;
     run_table(rt, "code 128", &Code128Rule, &CODE_128)
 }

@@ -1,10 +1,12 @@
 // Making links and reading them.
 ghost use Rattle.std.specs.Prelude.{◌≡◌, [], ◌∷◌, ◌++◌, false, true, length, if◌then◌else◌, ◌==◌, is_ok, Err};
-ghost use Rattle.fields.specs.Counts.{most_links, is_link, LinksBelow};
+ghost use Rattle.fields.specs.Counts.{is_link, LinksBelow};
+ghost use Rattle.limits.specs.Limits.{most_links};
 ghost use Rattle.fields.specs.Records.{seen_links, link_taken};
 
-use super::{LAST_LINK, LinkFault, Links};
+use super::{LinkFault, Links};
 use fixedvec::FixedVec;
+use limits::sizes::LAST_LINK;
 
 impl Links {
     // A field without links is not linked.

@@ -1,16 +1,17 @@
 // What commands do to the field table.
 ghost use Rattle.std.specs.Prelude.{◌≡◌, map, length, Option};
 ghost use Rattle.texts.specs.Contents.{contents};
-ghost use Rattle.fields.specs.Counts.{text_fields, bar_fields};
+ghost use Rattle.limits.specs.Limits.{text_fields, bar_fields};
 ghost use Rattle.fields.specs.Records.{Slot, seen_format, seen_field};
 ghost use Rattle.fields.specs.Tables.{seen_fields, blank_table, place_of, Answered, Updated};
 ghost use Rattle.fields.specs.Calls.{replaced, replace_refusal, retexted, text_refusal};
 ghost use Rattle.fields.specs.declared.fault.FieldFault.{FieldFault};
 
-use super::{BAR_FIELDS, FieldName, Fields, TEXT_FIELDS};
+use super::{FieldName, Fields};
 use crate::fault::FieldFault;
 use crate::field::Field;
 use crate::format::Format;
+use limits::sizes::{BAR_FIELDS, TEXT_FIELDS};
 use texts::text::Text;
 
 // The place of a field among so many of its kind; a number that none of them has is a field without a format.

@@ -8,9 +8,9 @@ use super::{Label, Sizes};
 use crate::action::{Action, action_of};
 use crate::drawings::no_drawings;
 use crate::fault::LabelFault;
-use crate::lists::strings_of;
 use fields::table::Fields;
 use jobgroups::command::Command;
+use jobvalues::lists::strings_of;
 
 // The sizes of a label at making.
 const NEW_SIZES: Sizes = Sizes {

@@ -1,6 +1,7 @@
 // A strip as a printer.
 ghost use Rattle.std.specs.Prelude.{◌≡◌, ℕ, ◌+◌, ◌<◌, ◌≤◌, cond, length, vec_len, MatchResult, nat_lt};
 ghost use Rattle.limits.specs.Limits.{longest_line, last_tag};
+ghost use Rattle.faults.specs.Places.{unplaced};
 ghost use Rattle.faults.specs.declared.Refusal.TheVariants.{ShortBuffer};
 ghost use Rattle.printers.specs.Paper.{unused, take_answer, after_take, reloaded};
 ghost use Rattle.printers.specs.Strips.{strip_paper, strip_worn, strip_again, written, bytes_after, used_after};
@@ -10,16 +11,16 @@ use crate::fault::PrinterFault;
 use crate::printer::Printer;
 use crate::strip::Strip;
 use crate::tally::Tally;
-use faults::Refusal;
+use faults::{Fault, Refusal, unplaced};
 use limits::sizes::{LAST_TAG, LONGEST_LINE};
 
 impl Strip {
     // A strip over the bytes given; refused where the longest line has no room.
-    pub fn new(bytes: Vec<u8>) -> Result<Strip, Refusal>
-        ensures { MatchResult result (λ s. (longest_line ≤ vec_len bytes) × (strip_paper s ≡ unused 1) × (s.bytes ≡ bytes) × (s.used ≡ 0)) (λ e. (vec_len bytes < longest_line) × (e ≡ ShortBuffer)) }
+    pub fn new(bytes: Vec<u8>) -> Result<Strip, Fault>
+        ensures { MatchResult result (λ s. (longest_line ≤ vec_len bytes) × (strip_paper s ≡ unused 1) × (s.bytes ≡ bytes) × (s.used ≡ 0)) (λ e. (vec_len bytes < longest_line) × (e ≡ unplaced ShortBuffer)) }
     {
         if bytes.len() < LONGEST_LINE {
-            return Err(Refusal::ShortBuffer);
+            return Err(unplaced(Refusal::ShortBuffer));
         }
         Ok(Strip {
             tally: Tally::new(),

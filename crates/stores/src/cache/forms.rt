@@ -1,5 +1,5 @@
 // A read cache as a form store: size and longest are asked below, and a form that was read last is not read again.
-ghost use Rattle.std.specs.Prelude.{◌≡◌, length};
+ghost use Rattle.std.specs.Prelude.{◌≡◌, length, ⊤, MatchOption, MatchResult};
 ghost use Rattle.stores.specs.Forms.{loaded_of, filled_with};
 ghost use Rattle.std.proofs.Common.{rules};
 
@@ -31,6 +31,7 @@ impl<S: FormStore> ReadCache<S> {
         ensures answer { result ≡ loaded_of ((S.FormStore.forms self.old.below).at number) (length out.old) }
         ensures buffer { out.new ≡ filled_with ((S.FormStore.forms self.old.below).at number) out.old }
         ensures same { S.FormStore.forms self.new.below ≡ S.FormStore.forms self.old.below }
+        ensures copied { MatchResult result (λ _. MatchOption self.new.copy ⊥ (λ c. c.number ≡ number)) (λ _. ⊤) }
     {
         let mut bytes = [0; LONGEST_FORM];
         let len = self.below.read(number, &mut bytes)?;
@@ -49,7 +50,13 @@ impl<S: FormStore> FormStore for ReadCache<S> {
         self.below.size(number)
     }
 
-    fn read(&mut self, number: u8, out: &mut [u8]) -> Result<usize, LoadFault> {
+    // The form that was read is the one that is kept.
+    fn read(&mut self, number: u8, out: &mut [u8]) -> Result<usize, LoadFault>
+        ensures answer { result ≡ loaded_of ((S.FormStore.forms self.old.below).at number) (length out.old) }
+        ensures buffer { out.new ≡ filled_with ((S.FormStore.forms self.old.below).at number) out.old }
+        ensures same { S.FormStore.forms self.new.below ≡ S.FormStore.forms self.old.below }
+        ensures copied { MatchResult result (λ _. MatchOption self.new.copy ⊥ (λ c. c.number ≡ number)) (λ _. ⊤) }
+    {
         match &self.copy {
             Some(copy) if copy.number == number => fill(copy.form.as_slice(), out),
             _ => self.reread(number, out),
