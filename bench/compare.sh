@@ -1,6 +1,5 @@
 #!/bin/sh
-# Compares tagrun with the plain program in bench/oracle: first what they write, on many
-# generated jobs, byte for byte; then how many instructions they take, on two long jobs.
+# Compares what tagrun writes with what the plain program in bench/oracle does, on many generated jobs, byte for byte.
 #
 #   bench/compare.sh [JOBS [FIRST]]
 #
@@ -9,7 +8,6 @@
 #          (default: target/bin/tagrun of this repository)
 # PICTURE  if set, a command that reads a job and writes the picture of the final label as a
 #          PBM; its bytes are compared too
-# SPEED    set to 0 to leave out the instruction counts, which need valgrind
 #
 # At the first difference it keeps the job and both outputs under target/bench/ and ends with 1.
 
@@ -19,7 +17,6 @@ jobs=${1:-1000}
 first=${2:-1}
 TAGRUN=${TAGRUN:-$root/target/bin/tagrun}
 PICTURE=${PICTURE:-}
-SPEED=${SPEED:-1}
 out=$root/target/bench
 mkdir -p "$out"
 
@@ -77,41 +74,3 @@ done
 
 echo "$jobs jobs alike: $(grep -cv '^R' "$scratch/all") tags, $(grep -c '^R' "$scratch/all") refusals"
 echo "refusals by number:$(grep '^R' "$scratch/all" | cut -d, -f2 | sort | uniq -c | awk '{ printf " %s:%s", $2, $1 }')"
-
-[ "$SPEED" = 1 ] || exit 0
-
-# The instructions of a command on a job, as callgrind counts them.
-instructions() {
-    job=$1
-    shift
-    valgrind --tool=callgrind --callgrind-out-file=/dev/null "$@" <"$job" 2>&1 >/dev/null |
-        awk '/Collected/ { print $NF }'
-}
-
-for kind in issue data; do
-    job=$scratch/$kind.job
-    "$generate" "$kind" >"$job"
-    "$oracle" <"$job" >"$scratch/expected"
-    $TAGRUN <"$job" >"$scratch/found"
-    cmp "$scratch/expected" "$scratch/found"
-    plain=$(instructions "$job" "$oracle")
-    # shellcheck disable=SC2086
-    ours=$(instructions "$job" $TAGRUN)
-    awk -v kind="$kind" -v plain="$plain" -v ours="$ours" 'BEGIN {
-        printf "instructions, %s job: %s by the plain program, %s by tagrun (%.2f times)\n",
-            kind, plain, ours, ours / plain }'
-done
-
-# Does a tag cost more towards the end of a long issue?
-for tags in 10 5000; do
-    "$generate" issue "$tags" >"$scratch/$tags.job"
-done
-# shellcheck disable=SC2086
-start=$(instructions "$scratch/10.job" $TAGRUN)
-# shellcheck disable=SC2086
-half=$(instructions "$scratch/5000.job" $TAGRUN)
-# shellcheck disable=SC2086
-whole=$(instructions "$scratch/issue.job" $TAGRUN)
-awk -v start="$start" -v half="$half" -v whole="$whole" 'BEGIN {
-    printf "instructions a tag by tagrun: %.0f in the first half of the issue, %.0f in the second\n",
-        (half - start) / 4990, (whole - half) / 4999 }'

@@ -2,8 +2,10 @@
 //!
 //! generate job SEED                 one job to standard output
 //! generate jobs DIR FIRST COUNT     the jobs FIRST, FIRST + 1, .. as DIR/SEED.job
-//! generate issue [TAGS]             one issue of 9,999 (or TAGS) tags with 24 fields
-//! generate data                     60,000 bytes of data commands, then one tag
+//! generate large KIND               a large job, to count instructions on: issue (9,999 tags of 24 fields),
+//!                                   data (60,000 bytes of texts), recall (a long form, recalled over and over)
+//!                                   or mixed (forms, recalls, texts, issues)
+//! generate issue TAGS               the first of them with fewer tags
 //!
 //! Build: rustc -O generate.rs
 
@@ -941,47 +943,154 @@ fn job(seed: u64) -> Vec<u8> {
     job.bytes
 }
 
-/// One issue of so many tags with all 24 fields: counting both ways, checks, suppressed zeros.
-fn speed_issue(tags: u64) -> Vec<u8> {
-    let mut bytes = Vec::new();
-    for field in 1..=TEXT_FIELDS {
-        let check = ["", ",M0", ",M1", ""][field % 4];
-        let sign = if field % 5 == 0 { '-' } else { '+' };
-        let body = format!(
-            "PC{field:03};{:04},{:04},1,1,A,00,B{check},{sign}{:010},Z04={:012}",
-            20 * field,
-            30 * field,
-            1 + field % 3,
-            1000 * field
-        );
-        bytes.extend(command(body.as_bytes()));
-    }
-    for field in 1..=BAR_FIELDS {
-        let (kind, check, text) = if field % 2 == 0 { (9, 1, "BN>800417") } else { (3, 3, "BN-800417") };
-        let body = format!(
-            "XB{field:02};{:04},{:04},{kind},{check},02,04,02,04,02,0,0080,+0000000001={text}",
-            40 * field,
-            50 * field
-        );
-        bytes.extend(command(body.as_bytes()));
-    }
-    bytes.extend(command(format!("XS;I,{tags:04},0002C3000").as_bytes()));
-    bytes
+/// What a large job for counting instructions is made of, from a seed of its own.
+struct Large {
+    random: Random,
+    bytes: Vec<u8>,
 }
 
-/// Data commands for one field up to 60,000 bytes, with one tag at the end.
-fn speed_data() -> Vec<u8> {
-    let mut bytes = command(b"PC001;0100,0050,1,1,A,00,B,M0,+0000000001,Z03");
-    let issue = command(b"XS;I,0001,0002C3000");
-    let mut number = 0;
-    while LONGEST_JOB - issue.len() - bytes.len() >= 26 {
-        bytes.extend(command(format!("RC001;{number:04}").as_bytes()));
-        number += 1;
+impl Large {
+    fn new(seed: u64) -> Large {
+        Large { random: Random(seed), bytes: Vec::new() }
     }
-    let left = LONGEST_JOB - issue.len() - bytes.len();
-    bytes.extend(command(format!("RC001;{:0width$}", number, width = left - 9).as_bytes()));
-    bytes.extend(issue);
-    bytes
+
+    fn push(&mut self, body: String) {
+        self.bytes.extend(command(body.as_bytes()));
+    }
+
+    fn room(&self) -> usize {
+        LONGEST_JOB - self.bytes.len()
+    }
+
+    fn digits(&mut self, count: usize) -> String {
+        (0..count).map(|_| char::from(b'0' + self.random.below(10) as u8)).collect()
+    }
+
+    /// So many characters that modulus 43 takes.
+    fn code_39(&mut self, count: usize) -> String {
+        (0..count).map(|_| char::from(*self.random.pick(CODE_39))).collect()
+    }
+
+    /// Digits with marks of Code 128 among them, up to so many bytes.
+    fn code_128(&mut self, count: usize) -> String {
+        let mut text = String::new();
+        while text.len() < count {
+            text.push_str(&if self.random.chance(300) { format!(">{}", self.digits(1)) } else { self.digits(1) });
+        }
+        text.truncate(count);
+        text
+    }
+
+    fn issue(&mut self, tags: u64) {
+        self.push(format!("XS;I,{tags:04},0002C3000"));
+    }
+
+    /// Text fields from 1 on, with checks, steps and zero suppression, and two bars.
+    fn formats(&mut self, texts: usize) {
+        for field in 1..=texts {
+            let check = ["", ",M0", ""][field % 3];
+            self.push(format!("PC{field:03};0100,{:04},1,1,A,00,B{check},+0000000001,Z03", 20 * field));
+        }
+        self.push("PC016;0100,0400,1,1,A,00,B;01,02".to_string());
+        self.push("XB01;0300,0100,9,1,02,04,06,08,10,0,0100,+0000000001".to_string());
+        self.push("XB02;0300,0300,3,3,02,04,06,08,10,0,0100,-0000000001,Z02".to_string());
+    }
+
+    /// Texts for such fields, and link strings.
+    fn texts(&mut self, texts: usize) {
+        for field in 1..=texts {
+            let count = 5 + self.random.below(8);
+            let text = self.digits(count);
+            self.push(format!("RC{field:03};{text}"));
+        }
+        let (bar, code, first, second) = (self.code_128(14), self.code_39(10), self.code_39(8), self.digits(6));
+        self.push(format!("RB01;{bar}"));
+        self.push(format!("RB02;{code}"));
+        self.push(format!("RC;{first},{second}"));
+    }
+
+    /// One issue of so many tags with all 24 fields, each of forty bytes and with a step.
+    fn one_issue(&mut self, tags: u64) {
+        let steps = ["+0000000001", "-0000000001", "+0000000007", "+0000000001", "-9999999999", "+0000000001"];
+        for field in 1..=TEXT_FIELDS {
+            let (check, text) = match field {
+                1..=8 => (",M0", format!("{:0>40}", self.digits(10))),
+                _ => (",M1", self.code_39(30) + &self.digits(10)),
+            };
+            let zeros = if field % 4 == 0 { ",Z03" } else { "" };
+            let step = steps[field % 6];
+            self.push(format!("PC{field:03};{:04},0050,1,1,A,00,B{check},{step}{zeros}={text}", 30 * field));
+        }
+        for field in 1..=BAR_FIELDS {
+            let (kind, check) = if field % 2 == 0 { (9, 1) } else { (3, 3) };
+            let text = if kind == 9 { self.code_128(40) } else { self.code_39(30) + &self.digits(10) };
+            let y = 50 * field;
+            self.push(format!("XB{field:02};0040,{y:04},{kind},{check},02,04,06,08,10,0,0080,+0000000001={text}"));
+        }
+        self.issue(tags);
+    }
+
+    /// Formats, then texts and link strings up to the longest job, and one tag.
+    fn data(&mut self) {
+        self.formats(12);
+        while self.room() > 500 {
+            self.texts(12);
+        }
+        self.issue(1);
+    }
+
+    /// A form of nearly the longest, recalled until the job is full.
+    fn recalls(&mut self) {
+        self.push("XO;01,0".to_string());
+        let start = self.bytes.len();
+        self.formats(6);
+        while LONGEST_FORM - (self.bytes.len() - start) > 200 {
+            self.texts(6);
+        }
+        self.push("XP".to_string());
+        while self.room() > 40 {
+            self.push("XQ;01,0,L".to_string());
+        }
+        self.issue(1);
+    }
+
+    /// Six forms, then recalls with data, issues, status, and a form that there is not.
+    fn shop(&mut self) {
+        for form in 1..=6 {
+            self.push(format!("XO;{form:02},0"));
+            self.push("D0520,0540,0500".to_string());
+            self.push("C".to_string());
+            self.formats(form);
+            self.push("LC;0000,0250,0539,0250,0,2".to_string());
+            self.push("XP".to_string());
+        }
+        while self.room() > 400 {
+            let form = 1 + self.random.below(6);
+            self.push(format!("XQ;{form:02},0,L"));
+            self.texts(form);
+            match self.random.below(8) {
+                0 => self.push("WS".to_string()),
+                1 => self.push("XQ;20,0,M".to_string()),
+                2 => self.push("RC001;12,3".to_string()),
+                _ => {}
+            }
+            let tags = 1 + self.random.below(60) as u64;
+            self.issue(tags);
+        }
+    }
+}
+
+/// A large job of the kind that is named.
+fn large(kind: &str) -> Option<Vec<u8>> {
+    let mut job = Large::new(1);
+    match kind {
+        "issue" => job.one_issue(9999),
+        "data" => job.data(),
+        "recall" => job.recalls(),
+        "mixed" => job.shop(),
+        _ => return None,
+    }
+    Some(job.bytes)
 }
 
 fn main() -> io::Result<()> {
@@ -996,11 +1105,16 @@ fn main() -> io::Result<()> {
             }
             Ok(())
         }
-        ["issue"] => io::stdout().write_all(&speed_issue(9999)),
-        ["issue", tags] => io::stdout().write_all(&speed_issue(number(tags))),
-        ["data"] => io::stdout().write_all(&speed_data()),
+        ["large", kind] if large(kind).is_some() => {
+            io::stdout().write_all(&large(kind).unwrap_or_default())
+        }
+        ["issue", tags] => {
+            let mut job = Large::new(1);
+            job.one_issue(number(tags));
+            io::stdout().write_all(&job.bytes)
+        }
         _ => {
-            eprintln!("usage: generate job SEED | jobs DIR FIRST COUNT | issue [TAGS] | data");
+            eprintln!("usage: generate job SEED | jobs DIR FIRST COUNT | large issue|data|recall|mixed | issue TAGS");
             std::process::exit(2);
         }
     }

@@ -1,8 +1,8 @@
 //! The reader: finds the command at a place of a job and takes its parts.
 
 use crate::fault::Fault;
-use crate::label::{Drawing, Format, Shape, Sizes};
-use crate::text::{Check, Rule, LONGEST_TEXT};
+use crate::label::{Drawing, Format, Head, Links, Shape, Sizes};
+use crate::text::{Check, Rule, Step, LONGEST_TEXT};
 use std::ops::RangeInclusive;
 
 pub const ESC: u8 = 0x1B;
@@ -12,7 +12,7 @@ pub const NUL: u8 = 0x00;
 /// The most bytes of a command, from its ESC to its NUL.
 const LONGEST_COMMAND: usize = 255;
 const MOST_LINKS: usize = 4;
-const MOST_STRINGS: usize = 8;
+pub const MOST_STRINGS: usize = 8;
 
 /// The number of text fields and of bar fields.
 pub const TEXT_FIELDS: usize = 16;
@@ -28,7 +28,8 @@ pub enum LabelCommand<'a> {
     Clear,
     Format { field: FieldIndex, format: Format, text: &'a [u8] },
     Text { field: FieldIndex, text: &'a [u8] },
-    Strings(Vec<&'a [u8]>),
+    /// One to eight link strings with the commas between them.
+    Strings(&'a [u8]),
     Draw(Drawing),
 }
 
@@ -45,17 +46,37 @@ pub enum Command<'a> {
 }
 
 /// Reads the command at `place`, which is before the job's end, and tells the place behind it.
+///
+/// The parts are taken first: they hold no LF, so that where all fit, the first LF stands behind
+/// them. Only of a command that is wrong, or has another byte behind that LF, is the end looked for.
 pub fn read(job: &[u8], place: usize) -> Result<(Command<'_>, usize), Fault> {
     if job[place] != ESC {
         return Err(Fault::new(4, place, following_esc(job, place)));
     }
-    let end = command_end(job, place).ok_or_else(|| Fault::new(5, place, following_esc(job, place)))?;
-    let next = end + 2;
-    match read_body(&job[..end], place + 1) {
-        Ok(command) => Ok((command, next)),
-        Err(Wrong::Letters) => Err(Fault::new(6, place, next)),
-        Err(Wrong::Byte(at)) => Err(Fault::new(7, at, next)),
-        Err(Wrong::Value(at)) => Err(Fault::new(8, at, next)),
+    let mut parts = Parts { job, at: place + 1 };
+    match parts.body() {
+        Ok(command) if job.get(parts.at + 1) == Some(&NUL) && parts.at + 2 - place <= LONGEST_COMMAND => {
+            Ok((command, parts.at + 2))
+        }
+        Ok(_) => Err(no_end(job, place)),
+        Err(wrong) => Err(refusal(job, place, wrong)),
+    }
+}
+
+#[cold]
+fn no_end(job: &[u8], place: usize) -> Fault {
+    Fault::new(5, place, following_esc(job, place))
+}
+
+#[cold]
+fn refusal(job: &[u8], place: usize, wrong: Wrong) -> Fault {
+    let Some(end) = command_end(job, place) else {
+        return no_end(job, place);
+    };
+    match wrong {
+        Wrong::Letters => Fault::new(6, place, end + 2),
+        Wrong::Byte(at) => Fault::new(7, at, end + 2),
+        Wrong::Value(at) => Fault::new(8, at, end + 2),
     }
 }
 
@@ -88,47 +109,102 @@ enum Wrong {
 
 type Read<T> = Result<T, Wrong>;
 
-/// Takes the parts of a body one after another; `job` ends where the body ends.
+/// Takes the parts of a body one after another, up to the LF.
 struct Parts<'a> {
     job: &'a [u8],
     at: usize,
 }
 
-fn read_body(job: &[u8], start: usize) -> Read<Command<'_>> {
-    let body = &job[start..];
-    let letters = match body {
-        [b'C' | b'D', ..] => 1,
-        _ => 2,
-    };
-    let mut parts = Parts { job, at: start + letters };
-    let command = match body.get(..letters).ok_or(Wrong::Letters)? {
-        b"D" => Command::Label(parts.size()?),
-        b"C" => Command::Label(LabelCommand::Clear),
-        b"PC" => Command::Label(parts.text_field()?),
-        b"XB" => Command::Label(parts.bar_field()?),
-        b"RC" => Command::Label(parts.text_data()?),
-        b"RB" => Command::Label(parts.bar_data()?),
-        b"LC" => Command::Label(parts.line()?),
-        b"XR" => Command::Label(parts.area()?),
-        b"XS" => parts.issue()?,
-        b"XO" => parts.begin_form()?,
-        b"XP" => Command::EndForm,
-        b"XQ" => parts.recall()?,
-        b"J1" => parts.empty_store()?,
-        b"WS" => Command::Status,
-        b"WR" => Command::Reset,
-        _ => return Err(Wrong::Letters),
-    };
-    parts.end()?;
-    Ok(command)
-}
+/// May this byte stand in a text?
+const IN_TEXT: [bool; 256] = {
+    let mut is = [false; 256];
+    let mut b = b' ' as usize;
+    while b <= b'~' as usize {
+        is[b] = b != b',' as usize;
+        b += 1;
+    }
+    is
+};
 
 impl<'a> Parts<'a> {
+    #[inline(always)]
+    fn body(&mut self) -> Read<Command<'a>> {
+        let letters = &self.job[self.at..];
+        let two = |parts: &mut Parts<'a>| parts.at += 2;
+        let command = match letters {
+            [b'R', b'C', ..] => {
+                two(self);
+                Command::Label(self.text_data()?)
+            }
+            [b'R', b'B', ..] => {
+                two(self);
+                Command::Label(self.bar_data()?)
+            }
+            [b'P', b'C', ..] => {
+                two(self);
+                Command::Label(self.text_field()?)
+            }
+            [b'X', b'B', ..] => {
+                two(self);
+                Command::Label(self.bar_field()?)
+            }
+            [b'D', ..] => {
+                self.at += 1;
+                Command::Label(self.size()?)
+            }
+            [b'C', ..] => {
+                self.at += 1;
+                Command::Label(LabelCommand::Clear)
+            }
+            [b'L', b'C', ..] => {
+                two(self);
+                Command::Label(self.line()?)
+            }
+            [b'X', b'R', ..] => {
+                two(self);
+                Command::Label(self.area()?)
+            }
+            [b'X', b'S', ..] => {
+                two(self);
+                self.issue()?
+            }
+            [b'X', b'Q', ..] => {
+                two(self);
+                self.recall()?
+            }
+            [b'X', b'O', ..] => {
+                two(self);
+                self.begin_form()?
+            }
+            [b'X', b'P', ..] => {
+                two(self);
+                Command::EndForm
+            }
+            [b'J', b'1', ..] => {
+                two(self);
+                self.empty_store()?
+            }
+            [b'W', b'S', ..] => {
+                two(self);
+                Command::Status
+            }
+            [b'W', b'R', ..] => {
+                two(self);
+                Command::Reset
+            }
+            _ => return Err(Wrong::Letters),
+        };
+        self.end()?;
+        Ok(command)
+    }
+
+    #[inline(always)]
     fn peek(&self) -> Option<u8> {
         self.job.get(self.at).copied()
     }
 
     /// Takes the next byte if it is of the kind that `fits`.
+    #[inline(always)]
     fn byte(&mut self, fits: impl Fn(u8) -> bool) -> Read<u8> {
         match self.peek() {
             Some(byte) if fits(byte) => {
@@ -139,32 +215,55 @@ impl<'a> Parts<'a> {
         }
     }
 
+    #[inline(always)]
     fn fixed(&mut self, byte: u8) -> Read<()> {
         self.byte(|b| b == byte).map(|_| ())
     }
 
+    #[inline(always)]
     fn comma(&mut self) -> Read<()> {
         self.fixed(b',')
     }
 
+    #[inline(always)]
     fn capital(&mut self) -> Read<u8> {
         self.byte(|b| b.is_ascii_uppercase())
     }
 
+    #[inline(always)]
     fn end(&self) -> Read<()> {
-        if self.at == self.job.len() {
+        if self.peek() == Some(LF) {
             Ok(())
         } else {
             Err(Wrong::Byte(self.at))
         }
     }
 
+    /// So many digits.
+    #[inline(always)]
+    fn digits<const N: usize>(&mut self) -> Read<&'a [u8; N]> {
+        let behind = &self.job[self.at..];
+        match behind.first_chunk::<N>() {
+            Some(digits) if digits.iter().all(u8::is_ascii_digit) => {
+                self.at += N;
+                Ok(digits)
+            }
+            _ => Err(self.wrong_digit(behind)),
+        }
+    }
+
+    #[cold]
+    fn wrong_digit(&self, behind: &[u8]) -> Wrong {
+        Wrong::Byte(self.at + behind.iter().take_while(|b| b.is_ascii_digit()).count())
+    }
+
     /// A part of so many digits whose value is admitted.
-    fn number_if(&mut self, digits: usize, admitted: impl Fn(u64) -> bool) -> Read<u64> {
+    #[inline(always)]
+    fn number_if<const N: usize>(&mut self, admitted: impl Fn(u32) -> bool) -> Read<u32> {
         let start = self.at;
         let mut value = 0;
-        for _ in 0..digits {
-            value = 10 * value + u64::from(self.byte(|b| b.is_ascii_digit())? - b'0');
+        for digit in self.digits::<N>()? {
+            value = 10 * value + u32::from(digit & 15);
         }
         if admitted(value) {
             Ok(value)
@@ -173,117 +272,139 @@ impl<'a> Parts<'a> {
         }
     }
 
-    fn number(&mut self, digits: usize, range: RangeInclusive<u64>) -> Read<u64> {
-        self.number_if(digits, |value| range.contains(&value))
+    #[inline(always)]
+    fn number<const N: usize>(&mut self, range: RangeInclusive<u32>) -> Read<u32> {
+        self.number_if::<N>(|value| range.contains(&value))
     }
 
+    #[inline(always)]
     fn x(&mut self) -> Read<u16> {
-        Ok(self.number(4, 0..=539)? as u16)
+        Ok(self.number::<4>(0..=539)? as u16)
     }
 
+    #[inline(always)]
     fn y(&mut self) -> Read<u16> {
-        Ok(self.number(4, 0..=499)? as u16)
+        Ok(self.number::<4>(0..=499)? as u16)
+    }
+
+    /// How many bytes from here on may stand in a text.
+    #[inline(always)]
+    fn skip_text(&mut self) -> &'a [u8] {
+        let behind = &self.job[self.at..];
+        let count = behind.iter().position(|&b| !IN_TEXT[usize::from(b)]).unwrap_or(behind.len());
+        self.at += count;
+        &behind[..count]
     }
 
     /// A text up to a comma, or to the body's end.
-    fn string(&mut self) -> Read<&'a [u8]> {
+    #[inline(always)]
+    fn string(&mut self) -> Read<()> {
         let start = self.at;
-        while let Some(b' '..=b'+' | b'-'..=b'~') = self.peek() {
-            self.at += 1;
-        }
-        if !matches!(self.peek(), None | Some(b',')) {
+        let text = self.skip_text();
+        if !matches!(self.peek(), Some(LF | b',')) {
             return Err(Wrong::Byte(self.at));
         }
-        let text = &self.job[start..self.at];
+        if text.len() > LONGEST_TEXT {
+            return Err(Wrong::Value(start));
+        }
+        Ok(())
+    }
+
+    /// A text up to the body's end; a comma in it is a wrong byte, however long the text is.
+    #[inline(always)]
+    fn text(&mut self) -> Read<&'a [u8]> {
+        let start = self.at;
+        let text = self.skip_text();
+        self.end()?;
         if text.len() > LONGEST_TEXT {
             return Err(Wrong::Value(start));
         }
         Ok(text)
     }
 
-    /// A text up to the body's end; a comma in it is a wrong byte, however long the text is.
-    fn text(&mut self) -> Read<&'a [u8]> {
-        let rest = &self.job[self.at..];
-        match rest.iter().position(|b| !matches!(b, b' '..=b'+' | b'-'..=b'~')) {
-            Some(wrong) => Err(Wrong::Byte(self.at + wrong)),
-            None => self.string(),
-        }
-    }
-
     fn size(&mut self) -> Read<LabelCommand<'a>> {
-        let pitch = self.number(4, 0..=1500)?;
+        let pitch = self.number::<4>(0..=1500)?;
         self.comma()?;
-        let width = self.number(4, 100..=540)?;
+        let width = self.number::<4>(100..=540)?;
         self.comma()?;
-        let length = self.number_if(4, |length| (80..=500).contains(&length) && length <= pitch)?;
+        let length = self.number_if::<4>(|length| (80..=500).contains(&length) && length <= pitch)?;
         Ok(LabelCommand::Size(Sizes { pitch: pitch as u16, width: width as u16, length: length as u16 }))
     }
 
     fn text_field(&mut self) -> Read<LabelCommand<'a>> {
-        let field = self.number(3, 1..=TEXT_FIELDS as u64)? as usize - 1;
+        let start = self.at;
+        let field = self.number::<3>(1..=TEXT_FIELDS as u32)? as usize - 1;
         self.fixed(b';')?;
-        let x = self.x()?;
+        self.x()?;
         self.comma()?;
-        let y = self.y()?;
+        self.y()?;
+        let head = head(b'T', &self.job[start + 1..]);
         self.comma()?;
-        self.number(1, 1..=9)?;
+        self.number::<1>(1..=9)?;
         self.comma()?;
-        self.number(1, 1..=9)?;
+        self.number::<1>(1..=9)?;
         self.comma()?;
         self.capital()?;
         self.comma()?;
-        self.number_if(2, |turn| matches!(turn, 0 | 11 | 22 | 33))?;
+        self.number_if::<2>(|turn| matches!(turn, 0 | 11 | 22 | 33))?;
         self.comma()?;
         self.capital()?;
         let format =
-            Format { x, y, check: Check::None, step: 0, keep: None, links: Vec::new(), rule: Rule::Plain };
+            Format { head, check: Check::None, step: Step::ZERO, keep: None, links: Links::NONE, rule: Rule::Plain };
         self.options(field, format, true)
     }
 
     fn bar_field(&mut self) -> Read<LabelCommand<'a>> {
-        let field = TEXT_FIELDS + self.number(2, 1..=BAR_FIELDS as u64)? as usize - 1;
+        let start = self.at;
+        let field = TEXT_FIELDS + self.number::<2>(1..=BAR_FIELDS as u32)? as usize - 1;
         self.fixed(b';')?;
-        let x = self.x()?;
+        self.x()?;
         self.comma()?;
-        let y = self.y()?;
+        self.y()?;
+        let head = head(b'B', &self.job[start..]);
         self.comma()?;
-        let kind = self.number_if(1, |kind| kind == 3 || kind == 9)?;
+        let kind = self.number_if::<1>(|kind| kind == 3 || kind == 9)?;
         self.comma()?;
-        let check = self.number_if(1, |check| check == 1 || (check == 3 && kind == 3))?;
+        let check = self.number_if::<1>(|check| check == 1 || (check == 3 && kind == 3))?;
         for _ in 0..5 {
             self.comma()?;
-            self.number(2, 0..=99)?;
+            self.number::<2>(0..=99)?;
         }
         self.comma()?;
-        self.number(1, 0..=3)?;
+        self.number::<1>(0..=3)?;
         self.comma()?;
-        self.number(4, 0..=9999)?;
+        self.number::<4>(0..=9999)?;
         let check = if check == 3 { Check::Modulus43 } else { Check::None };
         let rule = if kind == 9 { Rule::Code128 } else { Rule::Plain };
-        self.options(field, Format { x, y, check, step: 0, keep: None, links: Vec::new(), rule }, false)
+        let format = Format { head, check, step: Step::ZERO, keep: None, links: Links::NONE, rule };
+        self.options(field, format, false)
     }
 
     /// The options of a format: check (text fields only), step, zero suppression, text or links.
+    #[inline(always)]
     fn options(&mut self, field: FieldIndex, mut format: Format, checks: bool) -> Read<LabelCommand<'a>> {
-        let mut allowed: &[u8] = if checks { b"M+-Z" } else { b"+-Z" };
-        while self.peek() == Some(b',') && !allowed.is_empty() {
-            self.comma()?;
-            let letter = self.byte(|b| allowed.contains(&b))?;
-            match letter {
-                b'M' => {
-                    let modulus = self.number(1, 0..=1)?;
+        // How far the options have come: 0 check, 1 step, 2 zero suppression, 3 none.
+        let mut stage = if checks { 0 } else { 1 };
+        while stage < 3 && self.peek() == Some(b',') {
+            self.at += 1;
+            match self.peek() {
+                Some(b'M') if stage == 0 => {
+                    self.at += 1;
+                    let modulus = self.number::<1>(0..=1)?;
                     format.check = if modulus == 0 { Check::Modulus10 } else { Check::Modulus43 };
-                    allowed = b"+-Z";
+                    stage = 1;
                 }
-                b'Z' => {
-                    format.keep = Some(self.number(2, 0..=41)? as usize);
-                    allowed = b"";
+                Some(sign @ (b'+' | b'-')) if stage <= 1 => {
+                    self.at += 1;
+                    format.step = Step::new(sign == b'-', self.digits::<10>()?);
+                    stage = 2;
                 }
-                sign => {
-                    let step = self.number(10, 0..=9_999_999_999)? as i64;
-                    format.step = if sign == b'-' { -step } else { step };
-                    allowed = b"Z";
+                Some(b'Z') => {
+                    self.at += 1;
+                    format.keep = Some(self.number::<2>(0..=41)? as u8);
+                    stage = 3;
                 }
+                _ => return Err(Wrong::Byte(self.at)),
             }
         }
         let mut text: &[u8] = b"";
@@ -302,33 +423,39 @@ impl<'a> Parts<'a> {
     }
 
     /// One to four link numbers.
-    fn links(&mut self) -> Read<Vec<usize>> {
-        let mut links = vec![self.number(2, 1..=MOST_STRINGS as u64)? as usize];
-        while links.len() < MOST_LINKS && self.peek() == Some(b',') {
+    fn links(&mut self) -> Read<Links> {
+        let mut links = Links::NONE;
+        links.push(self.number::<2>(1..=MOST_STRINGS as u32)? as u8);
+        while links.as_slice().len() < MOST_LINKS && self.peek() == Some(b',') {
             self.comma()?;
-            links.push(self.number(2, 1..=MOST_STRINGS as u64)? as usize);
+            links.push(self.number::<2>(1..=MOST_STRINGS as u32)? as u8);
         }
         Ok(links)
     }
 
     /// A text field's text, or the strings for the linked fields.
+    #[inline(always)]
     fn text_data(&mut self) -> Read<LabelCommand<'a>> {
         if self.peek() != Some(b';') {
-            let field = self.number(3, 1..=TEXT_FIELDS as u64)? as usize - 1;
+            let field = self.number::<3>(1..=TEXT_FIELDS as u32)? as usize - 1;
             self.fixed(b';')?;
             return Ok(LabelCommand::Text { field, text: self.text()? });
         }
         self.at += 1;
-        let mut strings = vec![self.string()?];
-        while strings.len() < MOST_STRINGS && self.peek() == Some(b',') {
+        let start = self.at;
+        self.string()?;
+        let mut count = 1;
+        while count < MOST_STRINGS && self.peek() == Some(b',') {
             self.comma()?;
-            strings.push(self.string()?);
+            self.string()?;
+            count += 1;
         }
-        Ok(LabelCommand::Strings(strings))
+        Ok(LabelCommand::Strings(&self.job[start..self.at]))
     }
 
+    #[inline(always)]
     fn bar_data(&mut self) -> Read<LabelCommand<'a>> {
-        let field = TEXT_FIELDS + self.number(2, 1..=BAR_FIELDS as u64)? as usize - 1;
+        let field = TEXT_FIELDS + self.number::<2>(1..=BAR_FIELDS as u32)? as usize - 1;
         self.fixed(b';')?;
         Ok(LabelCommand::Text { field, text: self.text()? })
     }
@@ -355,9 +482,9 @@ impl<'a> Parts<'a> {
         if slanted && self.peek() == Some(b'0') {
             return Err(Wrong::Value(last));
         }
-        let rectangle = self.number(1, 0..=1)? == 1;
+        let rectangle = self.number::<1>(0..=1)? == 1;
         self.comma()?;
-        let thickness = self.number(1, 1..=9)? as usize;
+        let thickness = self.number::<1>(1..=9)? as usize;
         let shape = if rectangle { Shape::Rectangle(thickness) } else { Shape::Line(thickness) };
         Ok(LabelCommand::Draw(Drawing { corners, shape }))
     }
@@ -377,23 +504,23 @@ impl<'a> Parts<'a> {
         self.fixed(b';')?;
         self.fixed(b'I')?;
         self.comma()?;
-        let count = self.number(4, 1..=9999)?;
+        let count = self.number::<4>(1..=9999)?;
         self.comma()?;
-        self.number(3, 0..=100)?;
-        self.number(1, 0..=9)?;
+        self.number::<3>(0..=100)?;
+        self.number::<1>(0..=9)?;
         self.capital()?;
         self.byte(|b| b.is_ascii_uppercase() || b.is_ascii_digit())?;
-        self.number(1, 0..=9)?;
-        self.number(1, 0..=9)?;
-        self.number(1, 0..=9)?;
+        self.number::<1>(0..=9)?;
+        self.number::<1>(0..=9)?;
+        self.number::<1>(0..=9)?;
         Ok(Command::Issue(count as u16))
     }
 
     fn form_number(&mut self) -> Read<u8> {
         self.fixed(b';')?;
-        let number = self.number(2, 1..=20)?;
+        let number = self.number::<2>(1..=20)?;
         self.comma()?;
-        self.number(1, 0..=1)?;
+        self.number::<1>(0..=1)?;
         Ok(number as u8)
     }
 
@@ -416,4 +543,15 @@ impl<'a> Parts<'a> {
         self.fixed(b'B')?;
         Ok(Command::EmptyStore)
     }
+}
+
+/// What stands in front of a field's text in the line, from `told`: two digits of the field's number,
+/// a byte, X, a byte and Y, as the command has them.
+fn head(kind: u8, told: &[u8]) -> Head {
+    let mut head = *b",T00,0000,0000,";
+    head[1] = kind;
+    head[2..4].copy_from_slice(&told[0..2]);
+    head[5..9].copy_from_slice(&told[3..7]);
+    head[10..14].copy_from_slice(&told[8..12]);
+    head
 }

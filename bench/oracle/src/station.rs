@@ -1,7 +1,7 @@
 //! The station: does the commands of a job, saves and recalls forms, prints what is owed.
 
 use crate::fault::Fault;
-use crate::label::Label;
+use crate::label::{four_digits, Label, LINE_ROOM};
 use crate::picture;
 use crate::reader::{read, Command};
 use crate::roll::Roll;
@@ -26,12 +26,22 @@ pub struct Station {
     ordered: u32,
     store: FormStore,
     printer: Roll,
-    line: Vec<u8>,
+    line: [u8; LINE_ROOM],
+    /// The label that a recall works on.
+    spare: Label,
 }
 
 impl Station {
     pub fn new(store: FormStore, printer: Roll) -> Station {
-        Station { label: Label::new(), mode: Mode::Idle, ordered: 0, store, printer, line: Vec::new() }
+        Station {
+            label: Label::new(),
+            mode: Mode::Idle,
+            ordered: 0,
+            store,
+            printer,
+            line: [0; LINE_ROOM],
+            spare: Label::new(),
+        }
     }
 
     pub fn label(&self) -> &Label {
@@ -91,7 +101,7 @@ impl Station {
                 self.mode = Mode::Idle;
             }
             (Mode::Saving { .. }, _) => return Err(refuse(10)),
-            (Mode::Idle, Command::Label(command)) => self.label.apply(command).map_err(refuse)?,
+            (Mode::Idle, Command::Label(command)) => self.label.apply(&command).map_err(refuse)?,
             (Mode::Idle, Command::EndForm) => return Err(refuse(11)),
             (Mode::Idle, Command::Issue(count)) => self.issue(count).map_err(refuse)?,
             (Mode::Idle, Command::BeginForm(number)) => {
@@ -120,7 +130,8 @@ impl Station {
         let form = self.store.get(number).ok_or(Fault { number: 18, form: number, place, next: 0 })?;
         let form_copy = &mut work[..form.len()];
         form_copy.copy_from_slice(form);
-        let mut label = self.label.clone();
+        let label = &mut self.spare;
+        label.set_to(&self.label);
         let mut at = 0;
         while at < form_copy.len() {
             let inside = |fault: Fault| Fault { form: number, ..fault };
@@ -128,10 +139,10 @@ impl Station {
             let Command::Label(command) = command else {
                 return Err(inside(Fault::new(10, at, next)));
             };
-            label.apply(command).map_err(|number| inside(Fault::new(number, at, next)))?;
+            label.apply(&command).map_err(|number| inside(Fault::new(number, at, next)))?;
             at = next;
         }
-        self.label = label;
+        std::mem::swap(&mut self.label, &mut self.spare);
         Ok(())
     }
 
@@ -139,12 +150,13 @@ impl Station {
     fn status(&self, answer: &mut [u8]) {
         let owed = self.owed();
         let status = match (owed, self.printer.left()) {
-            (0, _) => "00",
-            (_, 0) => "13",
-            _ => "02",
+            (0, _) => b"00",
+            (_, 0) => b"13",
+            _ => b"02",
         };
-        let text = format!("\x01\x02{status}1{owed:04}\x03\x04\r\n");
-        answer[..ANSWER].copy_from_slice(text.as_bytes());
+        answer[..ANSWER].copy_from_slice(b"\x01\x020010000\x03\x04\r\n");
+        answer[2..4].copy_from_slice(status);
+        answer[5..9].copy_from_slice(&four_digits(owed));
     }
 
     /// Prints one owed label; its line then stands in the front of the work buffer.
@@ -158,15 +170,15 @@ impl Station {
         if self.printer.left() == 0 {
             return Err(Fault::new(23, 0, 0));
         }
-        self.line.clear();
-        self.label.write_line(size - owed + 1, size, &mut self.line);
-        if !self.printer.take(&self.line) {
+        let length = self.label.write_line(size - owed + 1, size, &mut self.line);
+        let line = &self.line[..length];
+        if !self.printer.take(line) {
             return Err(Fault::new(23, 0, 0));
         }
-        work[..self.line.len()].copy_from_slice(&self.line);
+        work[..length].copy_from_slice(line);
         self.label.turn();
         self.mode = if owed > 1 { Mode::Owing { size, owed: owed - 1 } } else { Mode::Idle };
-        Ok(self.line.len())
+        Ok(length)
     }
 
     pub fn reload(&mut self) {

@@ -8,7 +8,7 @@ use crate::roll::Roll;
 use crate::run;
 use crate::station::{Station, ANSWER, WORK};
 use crate::store::FormStore;
-use crate::text::{finish, Check, Rule};
+use crate::text::{finish, Check, Rule, Step, Text, LONGEST_FINISHED};
 
 const TEXT_1: &str = "PC001;0100,0050,1,1,A,00,B";
 const BAR_1: &str = "XB01;0100,0050,9,1,02,02,04,04,06,0,0100";
@@ -103,8 +103,10 @@ fn wrong(body: &str, number: u8, place: usize) {
 
 // The figures.
 
-fn finished(text: &str, check: Check, keep: usize) -> String {
-    String::from_utf8(finish(text.as_bytes(), check, Some(keep))).unwrap()
+fn finished(text: &str, check: Check, keep: u8) -> String {
+    let mut out = [0; LONGEST_FINISHED];
+    let length = finish(&Text::new(text.as_bytes()), check, Some(keep), &mut out);
+    String::from_utf8(out[..length].to_vec()).unwrap()
 }
 
 #[test]
@@ -120,7 +122,8 @@ fn zeros_are_suppressed() {
 
 fn turned(rule: Rule, text: &str, step: i64) -> String {
     let mut bytes = text.as_bytes().to_vec();
-    rule.turn(&mut bytes, step);
+    let digits = format!("{:010}", step.abs()).into_bytes();
+    rule.turn(&mut bytes, &Step::new(step < 0, digits[..].try_into().unwrap()));
     String::from_utf8(bytes).unwrap()
 }
 
@@ -147,14 +150,14 @@ fn texts_turn() {
 
 #[test]
 fn check_characters() {
-    assert_eq!(Check::Modulus10.character(b"629104150021"), Some(b'3'));
-    assert_eq!(Check::Modulus43.character(b"BOOT7"), Some(b'9'));
+    assert_eq!(Check::Modulus10.character(&Text::new(b"629104150021")), Some(b'3'));
+    assert_eq!(Check::Modulus43.character(&Text::new(b"BOOT7")), Some(b'9'));
     // Examples that GS1 publishes, of several lengths.
-    assert_eq!(Check::Modulus10.character(b"37610425002123456"), Some(b'9'));
-    assert_eq!(Check::Modulus10.character(b"61414199999"), Some(b'6'));
-    assert_eq!(Check::Modulus10.character(b"1061414154321"), Some(b'9'));
-    assert_eq!(Check::Modulus43.character(b"%"), Some(b'%'));
-    assert_eq!(Check::Modulus43.character(b"CODE39"), Some(b'W'));
+    assert_eq!(Check::Modulus10.character(&Text::new(b"37610425002123456")), Some(b'9'));
+    assert_eq!(Check::Modulus10.character(&Text::new(b"61414199999")), Some(b'6'));
+    assert_eq!(Check::Modulus10.character(&Text::new(b"1061414154321")), Some(b'9'));
+    assert_eq!(Check::Modulus43.character(&Text::new(b"%")), Some(b'%'));
+    assert_eq!(Check::Modulus43.character(&Text::new(b"CODE39")), Some(b'W'));
     assert!(Check::Modulus43.admits(b"AZ09-. $/+%"));
     assert!(!Check::Modulus43.admits(b"a"));
     assert!(!Check::Modulus43.admits(b"*"));

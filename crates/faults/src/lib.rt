@@ -8,7 +8,7 @@ ghost use Rattle.faults.specs.Words.{words_of};
 
 use std::fmt;
 
-// The part of a station that refuses.
+/// The part of a station that refuses.
 #[derive(Clone, Copy, PartialEq, Eq, Debug)]
 pub enum Layer {
     Job,
@@ -19,6 +19,7 @@ pub enum Layer {
 }
 
 impl Layer {
+    /// The letter under which it is told.
     pub fn letter(self) -> u8
         ensures { result ≡ letter_of self }
     {
@@ -32,7 +33,7 @@ impl Layer {
     }
 }
 
-// Why something was refused. docs/FAULTS.md says when each comes.
+/// Why something was refused. docs/FAULTS.md says when each comes.
 #[derive(Clone, Copy, PartialEq, Eq, Debug)]
 pub enum Refusal {
     JobBounds = 1,
@@ -61,12 +62,14 @@ pub enum Refusal {
 }
 
 impl Refusal {
+    /// The number under which it is told: 1 to 23.
     pub fn number(self) -> u8
         ensures { result ≡ number_of self }
     {
         self as u8
     }
 
+    /// The layer that refuses.
     pub fn layer(self) -> Layer
         ensures { result ≡ layer_of self }
     {
@@ -96,7 +99,7 @@ impl Refusal {
     }
 }
 
-// In plain words.
+/// In plain words.
 impl fmt::Display for Refusal {
     ghost output = { λ r. Some (words_of r) };
 
@@ -131,7 +134,8 @@ impl fmt::Display for Refusal {
     }
 }
 
-// A refusal with where it came. The form is 0 outside a recall; the places are of the job or, in a recall, of the form.
+/// A refusal with where it came. The form is 0 outside a recall. Places count bytes from 0: the place those of the
+/// job or, in a recall, of the form; `next`, behind which reading goes on, those of the job.
 #[derive(Clone, Copy, PartialEq, Eq, Debug)]
 pub struct Fault {
     pub refusal: Refusal,
@@ -140,7 +144,7 @@ pub struct Fault {
     pub next: usize,
 }
 
-// The fault of a call that reads no command: there is no form, and no place.
+/// The fault of a call that reads no command: form and places are 0.
 pub fn unplaced(refusal: Refusal) -> Fault
     ensures { result ≡ unplaced refusal }
 {

@@ -1,4 +1,6 @@
 pub mod Counts
+pub mod Answers
+pub mod Joining
 pub mod Records
 pub mod Tables
 pub mod Calls

@@ -1,32 +1,27 @@
 -- Link strings: every linked field gets its strings joined in its own order.
---   joined_text strings links   the strings that the links name, joined in the order of the links: strings are numbered from
---                       1, one that was not sent is empty, and one that is named twice is joined twice
---   linked_slot, linked   a field whose text, if it is linked, is now its joined text; every field of a table so
---   too_long, outside   a field's joined text is too long for a text, or has a character outside the set of its check; a
---                       field that is not linked joins nothing, so it is neither
---   link_refusal        why link strings are refused: by any field's joined text that is too long, else by any that has a
---                       character outside its check's set
---   outside_if_fits, linked_if_fits   the same as outside and linked_slot for a field whose joined text is not too long
-use Rattle.std.specs.Prelude.{ℕ, ◌-◌, Bool, true, false, cond, List, [], ◌∷◌, ◌++◌, length, Some, None, Option, ◌==◌, nat_lt, slice_index_or}
+--   linked_field, linked   a field whose text, if it is linked, is now its joined text; every field of a table so
+--   too_long, outside   a field's joined text is too long for a text, or has a character outside the set of its
+--                       check; a field that is not linked joins nothing, so it is neither
+--   link_refusal        why link strings are refused: by any field's joined text that is too long, else by any
+--                       that has a character outside its check's set
+--   linked_if_fits      the same as linked_field for a field whose joined text is not too long
+use Rattle.std.specs.Prelude.{ℕ, Bool, true, false, cond, List, [], length, Some, None, Option, ◌==◌, nat_lt}
 use Rattle.limits.specs.Limits.{longest_text}
 use Rattle.texts.specs.Checks.{admits_all}
 use Rattle.texts.specs.declared.checks.Check.{Check}
 use Rattle.texts.specs.declared.checks.Check.TheVariants.{NoCheck}
-use Rattle.fields.specs.Records.{Layout, Slot}
-use Rattle.fields.specs.Tables.{Table, each_slot, any_slot}
+use Rattle.fields.specs.Joining.{joined_text}
+use Rattle.fields.specs.Records.{FormatSeen, FieldSeen}
+use Rattle.fields.specs.Tables.{Table, each_field, any_field}
 use Rattle.fields.specs.Calls.{retext}
 use Rattle.fields.specs.declared.fault.FieldFault.{FieldFault}
 use Rattle.fields.specs.declared.fault.FieldFault.TheVariants.{JoinedTooLong, OutsideCheck}
 
-abbrev pub joined_text : List (List ℕ) → List ℕ → List ℕ
-joined_text strings [] = []
-joined_text strings (n ∷ ns) = slice_index_or strings (n - 1) [] ++ joined_text strings ns
-
-abbrev pub links_of : Option Layout → List ℕ
+abbrev pub links_of : Option FormatSeen → List ℕ
 links_of None = []
 links_of (Some l) = l.links
 
-abbrev pub check_of : Option Layout → Check
+abbrev pub check_of : Option FormatSeen → Check
 check_of None = NoCheck
 check_of (Some l) = l.check
 
@@ -34,27 +29,25 @@ check_of (Some l) = l.check
 abbrev pub linked_text : List (List ℕ) → List ℕ → List ℕ → List ℕ
 linked_text strings links t = cond (length links == 0) t (joined_text strings links)
 
-abbrev pub linked_slot : List (List ℕ) → Slot → Slot
-linked_slot strings s = retext (linked_text strings (links_of s.format) s.text) s
+abbrev pub linked_field : List (List ℕ) → FieldSeen → FieldSeen
+linked_field strings s = retext (linked_text strings (links_of s.format) s.text) s
 
 abbrev pub linked : List (List ℕ) → Table → Table
-linked strings = each_slot (linked_slot strings)
+linked strings = each_field (linked_field strings)
 
-abbrev pub joined_for : List (List ℕ) → Slot → List ℕ
+abbrev pub joined_for : List (List ℕ) → FieldSeen → List ℕ
 joined_for strings s = joined_text strings (links_of s.format)
 
-abbrev pub too_long : List (List ℕ) → Slot → Bool
+abbrev pub too_long : List (List ℕ) → FieldSeen → Bool
 too_long strings s = nat_lt longest_text (length (joined_for strings s))
 
-abbrev pub outside : List (List ℕ) → Slot → Bool
+abbrev pub outside : List (List ℕ) → FieldSeen → Bool
 outside strings s = cond (admits_all (check_of s.format) (joined_for strings s)) false true
 
 abbrev pub link_refusal : List (List ℕ) → Table → Option FieldFault
 link_refusal strings t =
-    cond (any_slot (too_long strings) t) (Some JoinedTooLong) (cond (any_slot (outside strings) t) (Some OutsideCheck) None)
+    cond (any_field (too_long strings) t) (Some JoinedTooLong)
+    (cond (any_field (outside strings) t) (Some OutsideCheck) None)
 
-abbrev pub outside_if_fits : List (List ℕ) → Slot → Bool
-outside_if_fits strings s = cond (too_long strings s) false (outside strings s)
-
-abbrev pub linked_if_fits : List (List ℕ) → Slot → Slot
-linked_if_fits strings s = cond (too_long strings s) s (linked_slot strings s)
+abbrev pub linked_if_fits : List (List ℕ) → FieldSeen → FieldSeen
+linked_if_fits strings s = cond (too_long strings s) s (linked_field strings s)

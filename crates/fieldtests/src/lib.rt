@@ -5,7 +5,7 @@
 mod tests {
     use fields::fault::FieldFault;
     use fields::field::Field;
-    use fields::format::{Format, Kind};
+    use fields::format::{FieldKind, Format};
     use fields::links::Links;
     use fields::table::{FieldName, Fields};
     use limits::sizes::LONGEST_LINE;
@@ -23,7 +23,7 @@ mod tests {
             step: 1,
             kept: Some(3),
             links,
-            kind: Kind::Text,
+            kind: FieldKind::Text,
         }
     }
 
@@ -156,12 +156,12 @@ mod tests {
         let mut fields = Fields::blank();
         assert_eq!(rt; fields.replace(FieldName::Text(16), format, text), Ok(()));
         let code39 = Format {
-            kind: Kind::Code39,
+            kind: FieldKind::Code39,
             ..format
         };
         assert_eq!(rt; fields.replace(FieldName::Bar(1), code39, text), Ok(()));
         let code128 = Format {
-            kind: Kind::Code128,
+            kind: FieldKind::Code128,
             ..format
         };
         assert_eq!(rt; fields.replace(FieldName::Bar(2), code128, text), Ok(()));

@@ -4,7 +4,7 @@
 --   AllHold fs  the two of each figure are equal
 use Rattle.std.specs.Prelude.{◌≡◌, ℕ, List, [], ◌∷◌, pos, negsuc, Some, codes}
 use Rattle.std.specs.List.{AllByRecursion}
-use Rattle.fields.specs.Linking.{joined_text}
+use Rattle.fields.specs.Joining.{joined_text}
 use Rattle.picture.specs.Places.{dot_of}
 use Rattle.texts.specs.Checks.{check_character}
 use Rattle.texts.specs.Digits.{digit_wheels, plain_place, code128_place}

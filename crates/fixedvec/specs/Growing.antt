@@ -1,6 +1,6 @@
 -- What it means that items join others.
---   Grown N old more r new   r is the answer, and new what is held then, where more joins old and there is room for N items:
---                            all of more stands behind old or, without room for all of it, nothing changes
+--   Grown N old more r new   r is the answer, and new what is held then, where more joins old and there is room for N
+--                            items: all of more stands behind old or, without room for all of it, nothing changes
 use Rattle.std.specs.Prelude.{◌≡◌, ℕ, ◌+◌, ◌<◌, ◌≤◌, List, ◌++◌, length, Ok, Err, Result}
 use Rattle.fixedvec.specs.declared.Full.{Full}
 

@@ -1,16 +1,16 @@
-// A vector of at most N items that lie in the value itself: it allocates nothing and, other than the library's of that kind, is copied as
-// a whole.
+// A vector of at most N items that lie in the value itself: it allocates nothing and, other than the library's of
+// that kind, is copied as a whole.
 #![tactic(auto)]
 
 ghost use Rattle.std.specs.Prelude.{◌≡◌, ◌<◌, ◌≤◌, ⊤, [], ◌∷◌, length, take, ◌==◌, MatchResult};
 
 use std::alloc::AllocError;
 
-// No room is left.
+/// No room is left.
 #[derive(Clone, Copy, PartialEq, Eq, Debug)]
 pub struct Full;
 
-// Cells behind the first `len` mean nothing.
+/// At most N items. Cells behind the first `len` mean nothing.
 pub struct FixedVec<T: Copy, const N: usize> {
     cells: [T; N],
     len: usize,
@@ -35,7 +35,7 @@ impl<T: Copy, const N: usize> FixedVec<T, N> {
     ghost use Rattle.fixedvec.specs.Items.{items};
     ghost use Rattle.fixedvec.specs.Growing.{Grown};
 
-    // No items. The cells hold `blank` until an item comes.
+    /// No items. The cells hold `blank` until an item comes.
     pub fn new(blank: T) -> FixedVec<T, N>
         ensures { items result ≡ [] }
     {
@@ -65,7 +65,7 @@ impl<T: Copy, const N: usize> FixedVec<T, N> {
         &self.cells[..self.len]
     }
 
-    // One item more, behind the others. Without room nothing changes.
+    /// One item more, behind the others. Without room nothing changes.
     pub fn push(&mut self, item: T) -> Result<(), Full>
         ensures { Grown N (items self.old) (item ∷ []) result (items self.new) }
     {
@@ -77,7 +77,7 @@ impl<T: Copy, const N: usize> FixedVec<T, N> {
         Ok(())
     }
 
-    // Items more, behind the others: all of them or, without room, none.
+    /// Items more, behind the others: all of them or, without room, none.
     pub fn extend(&mut self, more: &[T]) -> Result<(), Full>
         ensures { Grown N (items self.old) more.now result (items self.new) }
     {
@@ -91,16 +91,17 @@ impl<T: Copy, const N: usize> FixedVec<T, N> {
         Ok(())
     }
 
-    // The items of a slice; none where it has more than there is room for.
+    /// The items of a slice; none where it has more than there is room for.
     pub fn from_slice(blank: T, slice: &[T]) -> Result<FixedVec<T, N>, Full>
-        ensures { MatchResult result (λ v. (items v ≡ slice.now) × (length slice.now ≤ N)) (λ _. N < length slice.now) }
+        ensures { let count = length slice.now in
+            MatchResult result (λ v. (items v ≡ slice.now) × (count ≤ N)) (λ _. N < count) }
     {
         let mut all = FixedVec::new(blank);
         all.extend(slice)?;
         Ok(all)
     }
 
-    // The first `len` items of an array, at most all.
+    /// The first `len` items of an array, at most all.
     pub fn of_front(cells: [T; N], len: usize) -> FixedVec<T, N>
         ensures { items result ≡ take len cells }
     {
@@ -110,9 +111,9 @@ impl<T: Copy, const N: usize> FixedVec<T, N> {
         }
     }
 
-    // Kept so: a slice lent for writing would need a clause on what it leaves, which gets no proof beside ghost fields, and a closure would
-    // be a requires of a public call. So whoever writes over the items takes the array and gives it back by of_front.
-    // An array that begins with the items, so that they can be written over; what stands behind them means nothing.
+    /// An array that begins with the items, so that they can be written over; what stands behind them means nothing.
+    // Kept so: a slice lent for writing would need a clause on what it leaves, which gets no proof beside ghost fields,
+    // and a closure would be a requires of a public call. So the array is taken, and given back by of_front.
     pub fn to_array(self) -> [T; N]
         ensures { take (length (items self)) result ≡ items self }
     {

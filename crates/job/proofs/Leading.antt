@@ -16,9 +16,12 @@ and_is false t = refl
 starts_is : (ls bs : List ℕ) → starts_with eqb bs ls ≡ leads ls bs
 starts_is [] bs = refl
 starts_is (l ∷ ls) [] = refl
-starts_is (l ∷ ls) (b ∷ bs) = and_is (eqb l b) (starts_with eqb bs ls) ∙ ap (λ t. cond t (starts_with eqb bs ls) false) (flip l b) ∙ ap (λ t. cond (eqb b l) t false) (starts_is ls bs)
+starts_is (l ∷ ls) (b ∷ bs) =
+    and_is (eqb l b) (starts_with eqb bs ls) ∙ ap (λ t. cond t (starts_with eqb bs ls) false) (flip l b)
+    ∙ ap (λ t. cond (eqb b l) t false) (starts_is ls bs)
 
 pub find_is : (cs : List Letters) (bs : List ℕ) → find (λ c. starts_with eqb bs (letters_of c)) cs ≡ first_led cs bs
 find_is [] bs = refl
 find_is (c ∷ cs) bs =
-    ap (λ t. cond t (Some c) (find (λ c. starts_with eqb bs (letters_of c)) cs)) (starts_is (letters_of c) bs) ∙ ap (cond (leads (letters_of c) bs) (Some c)) (find_is cs bs)
+    ap (λ t. cond t (Some c) (find (λ c. starts_with eqb bs (letters_of c)) cs)) (starts_is (letters_of c) bs)
+    ∙ ap (cond (leads (letters_of c) bs) (Some c)) (find_is cs bs)

@@ -5,7 +5,7 @@ use Rattle.jobparts.specs.Kinds.{stands}
 use Rattle.jobparts.specs.declared.part.ReadRefusal.{ReadRefusal}
 use Rattle.jobparts.specs.declared.part.ReadRefusal.TheVariants.{OutOfBounds, AtEnd, NoEscape, NoEnding, UnknownLetters, WrongByte, NotAdmitted}
 use Rattle.jobparts.specs.declared.part.Wrong.{Wrong}
-use Rattle.jobgroups.specs.Commands.{Plain}
+use Rattle.jobgroups.specs.Commands.{CommandSeen}
 use Rattle.job.specs.Reading.{before, fault, next_escape, window, then_read, placed, body_at, read_at, answer_of, next_of}
 use Rattle.job.specs.declared.fault.ReadFault.{ReadFault}
 
@@ -27,11 +27,11 @@ others_go_on UnknownLetters a b = refl
 others_go_on WrongByte a b = refl
 others_go_on NotAdmitted a b = refl
 
-abbrev pub ended : Result Plain ReadFault → Bool
+abbrev pub ended : Result CommandSeen ReadFault → Bool
 ended (Ok p) = false
 ended (Err e) = ends e.refusal
 
-next_placed : (next : ℕ) (r : Result Plain Wrong) → next_of (placed next r) ≡ next
+next_placed : (next : ℕ) (r : Result CommandSeen Wrong) → next_of (placed next r) ≡ next
 next_placed next (Ok p) = refl
 next_placed next (Err w) = refl
 
@@ -45,11 +45,15 @@ begun within escape at next = cond within (cond escape (Ok tt) (Err (fault NoEsc
 abbrev closes : Bool → ℕ → ℕ → ℕ → Result ℕ ReadFault
 closes closed at next line = cond closed (Ok (at + line)) (Err (fault NoEnding at next))
 
-abbrev steps : Bool → Bool → Bool → Bool → Bool → ℕ → ℕ → ℕ → (ℕ → Result Plain Wrong) → Result (Plain × ℕ) ReadFault
+abbrev steps : Bool → Bool → Bool → Bool → Bool → ℕ → ℕ → ℕ → (ℕ → Result CommandSeen Wrong)
+    → Result (CommandSeen × ℕ) ReadFault
 steps long past within escape closed at next line body =
-    then_read (opened long past at) (λ _. then_read (begun within escape at next) (λ _. then_read (closes closed at next line) (λ end. placed (end + 2) (body end))))
+    then_read (opened long past at)
+    (λ _. then_read (begun within escape at next)
+    (λ _. then_read (closes closed at next line) (λ end. placed (end + 2) (body end))))
 
-goes_on : (long past within escape closed : Bool) (at next line : ℕ) (body : ℕ → Result Plain Wrong) → at < next → false ≡ ended (answer_of (steps long past within escape closed at next line body)) →
+goes_on : (long past within escape closed : Bool) (at next line : ℕ) (body : ℕ → Result CommandSeen Wrong) → at < next
+    → false ≡ ended (answer_of (steps long past within escape closed at next line body)) →
     (within ≡ true) × (at < next_of (steps long past within escape closed at next line body))
 goes_on true past within escape closed at next line body lt e = absurd (false≢true e)
 goes_on false true within escape closed at next line body lt e = absurd (false≢true e)
@@ -60,8 +64,11 @@ goes_on false false true true true at next line body lt e =
     let is = next_placed (at + line + 2) (body (at + line)) in
     (refl, omega arith)
 
-pub onward : (job : List ℕ) (at : ℕ) → false ≡ ended (answer_of (read_at job at)) → (at < length job) × (at < next_of (read_at job at))
+pub onward : (job : List ℕ) (at : ℕ) → false ≡ ended (answer_of (read_at job at))
+    → (at < length job) × (at < next_of (read_at job at))
 onward job at e =
     let w = window job at in
-    let o = goes_on _ (ltb (length job) at) (ltb at (length job)) (eqb (get_or job at 0) 27) (stands (eqb 0) w (before 10 w + 1)) at (next_escape job at) (before 10 w) (λ end. body_at (take end job) at) (omega arith) e in
+    let o = goes_on _ (ltb (length job) at) (ltb at (length job)) (eqb (get_or job at 0) 27)
+    (stands (eqb 0) w (before 10 w + 1)) at (next_escape job at) (before 10 w) (λ end. body_at (take end job) at)
+    (omega arith) e in
     (ltb-true at (length job) o.0, o.1)

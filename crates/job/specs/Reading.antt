@@ -4,7 +4,7 @@
 --   parsed_at          what the table says of a body whose letters are known, or not known
 --   before b bs        how many bytes of bs stand before the first b; all, where there is none
 --   next_escape        the place of the first ESC behind a place, or the job's end
---   open_at            the job is not too long, and the place not past its end
+--   bounds_at            the job is not too long, and the place not past its end
 --   begin_at           a command begins at the place
 --   ending_at          the place of the LF that ends it: the first, with NUL behind it, both within the longest command
 --   read_at            the command at a place and the place behind it, or the fault
@@ -16,10 +16,10 @@ use Rattle.faults.specs.declared.Fault.{Fault}
 use Rattle.jobparts.specs.declared.part.ReadRefusal.{ReadRefusal}
 use Rattle.jobparts.specs.declared.part.ReadRefusal.TheVariants.{OutOfBounds, AtEnd, NoEscape, NoEnding, UnknownLetters, WrongByte, NotAdmitted}
 use Rattle.jobparts.specs.declared.part.Wrong.{Wrong}
-use Rattle.jobgroups.specs.Commands.{Plain, command_at}
+use Rattle.jobgroups.specs.Commands.{CommandSeen, command_at}
 use Rattle.jobgroups.specs.Table.{letters_of, order}
 use Rattle.jobgroups.specs.declared.letters.Letters.{Letters}
-use Rattle.jobgroups.specs.Commands.{plain_of}
+use Rattle.jobgroups.specs.Commands.{seen_command}
 use Rattle.jobgroups.specs.declared.command.Command.{Command}
 use Rattle.jobparts.specs.Kinds.{stands}
 use Rattle.limits.specs.Limits.{longest_job, longest_command}
@@ -46,7 +46,7 @@ abbrev pub first_led : List Letters → List ℕ → Option Letters
 first_led [] bs = None
 first_led (c ∷ cs) bs = cond (leads (letters_of c) bs) (Some c) (first_led cs bs)
 
-abbrev pub parsed_at : Option Letters → List ℕ → ℕ → ℕ → Result Plain Wrong
+abbrev pub parsed_at : Option Letters → List ℕ → ℕ → ℕ → Result CommandSeen Wrong
 parsed_at None body at start = Err (record { refusal = UnknownLetters; place = at })
 parsed_at (Some c) body at start = command_at c body (start + length (letters_of c))
 
@@ -60,8 +60,8 @@ next_escape job at = at + 1 + before 27 (drop (at + 1) job)
 abbrev pub fault : ReadRefusal → ℕ → ℕ → ReadFault
 fault refusal place next = record { refusal = refusal; place = place; next = next }
 
-abbrev pub open_at : List ℕ → ℕ → Result (Unit {0}) ReadFault
-open_at job at =
+abbrev pub bounds_at : List ℕ → ℕ → Result (Unit {0}) ReadFault
+bounds_at job at =
     cond (nat_lt longest_job (length job)) (Err (fault OutOfBounds at at))
     (cond (nat_lt (length job) at) (Err (fault OutOfBounds at at)) (Ok tt))
 
@@ -85,31 +85,32 @@ then_read (Ok x) f = f x
 then_read (Err e) f = Err e
 
 -- a body is read, and the place behind the command is known
-abbrev pub placed : ℕ → Result Plain Wrong → Result (Plain × ℕ) ReadFault
+abbrev pub placed : ℕ → Result CommandSeen Wrong → Result (CommandSeen × ℕ) ReadFault
 placed next (Ok p) = Ok (p, next)
 placed next (Err w) = Err (fault w.refusal w.place next)
 
-abbrev pub body_at : List ℕ → ℕ → Result Plain Wrong
+abbrev pub body_at : List ℕ → ℕ → Result CommandSeen Wrong
 body_at body at = parsed_at (first_led order (drop (at + 1) body)) body at (at + 1)
 
-abbrev pub read_at : List ℕ → ℕ → Result (Plain × ℕ) ReadFault
+abbrev pub read_at : List ℕ → ℕ → Result (CommandSeen × ℕ) ReadFault
 read_at job at =
-    then_read (open_at job at) (λ _.
-    then_read (begin_at job at) (λ _. then_read (ending_at job at) (λ end. placed (end + 2) (body_at (take end job) at))))
+    then_read (bounds_at job at) (λ _.
+    then_read (begin_at job at)
+    (λ _. then_read (ending_at job at) (λ end. placed (end + 2) (body_at (take end job) at))))
 
 -- the code's answers, with places and bytes as numbers and lists
-abbrev pub plain_read : Result (Command × ℕ) ReadFault → Result (Plain × ℕ) ReadFault
-plain_read (Ok x) = Ok (plain_of x.0, x.1)
-plain_read (Err e) = Err e
+abbrev pub seen_read : Result (Command × ℕ) ReadFault → Result (CommandSeen × ℕ) ReadFault
+seen_read (Ok x) = Ok (seen_command x.0, x.1)
+seen_read (Err e) = Err e
 
-abbrev pub plain_answer : Result Command ReadFault → Result Plain ReadFault
-plain_answer (Ok c) = Ok (plain_of c)
-plain_answer (Err e) = Err e
+abbrev pub seen_answer : Result Command ReadFault → Result CommandSeen ReadFault
+seen_answer (Ok c) = Ok (seen_command c)
+seen_answer (Err e) = Err e
 
-abbrev pub answer_of : Result (Plain × ℕ) ReadFault → Result Plain ReadFault
+abbrev pub answer_of : Result (CommandSeen × ℕ) ReadFault → Result CommandSeen ReadFault
 answer_of (Ok x) = Ok x.0
 answer_of (Err e) = Err e
 
-abbrev pub next_of : Result (Plain × ℕ) ReadFault → ℕ
+abbrev pub next_of : Result (CommandSeen × ℕ) ReadFault → ℕ
 next_of (Ok x) = x.1
 next_of (Err e) = e.next

@@ -2,19 +2,21 @@
 ghost use Rattle.std.specs.Prelude.{◌≡◌, [], IfOk};
 ghost use Rattle.jobparts.specs.Cursors.{Takes};
 ghost use Rattle.jobparts.specs.Grammar.{groups_at};
-ghost use Rattle.jobgroups.specs.Commands.{text_format_slots, bar_format_slots, field_text_slots, line_slots, area_slots, issue_slots, recall_slots, plain_of};
-ghost use Rattle.jobgroups.specs.Table.{parts_of};
-ghost use Rattle.jobgroups.specs.declared.letters.Letters.TheVariants.{Pc, Xb, Rc, Rb, Lc, Xr, Xs, Xq, J1};
+ghost use Rattle.jobgroups.specs.Commands.{text_format_parts, bar_format_parts, field_text_parts, line_parts, area_parts, issue_parts, recall_parts, label_letters, label_slots, station_letters, station_slots, seen_command};
+ghost use Rattle.jobgroups.specs.Table.{label_parts_of, station_parts_of, parts_of};
+ghost use Rattle.jobgroups.specs.declared.letters.LabelLetters.TheVariants.{Pc, Xb, Rc, Rb, Lc, Xr};
+ghost use Rattle.jobgroups.specs.declared.letters.StationLetters.TheVariants.{Xs, Xq, J1};
 
 use jobgroups::command::{
-    Area, BarFormat, Command, Ends, FieldText, Issue, Line, Recall, TextFormat,
+    Area, BarFormat, Command, Ends, FieldText, Issue, LabelCommand, Line, Recall, StationCommand,
+    TextFormat,
 };
 use jobgroups::groups::{
-    bar_field, bar_height, bar_type, bar_widths, check_figure, comma_letter, extras_at, form_at,
+    bar_field, bar_height, bar_type, bar_widths, check_option, comma_letter, extras_at, form_at,
     issue_count, issue_setup, lettering_at, line_ends, line_shape, magnification_at, point_at,
     sizes_at, text_field,
 };
-use jobgroups::letters::Letters;
+use jobgroups::letters::{LabelLetters, Letters, StationLetters};
 use jobparts::cursor::Cursor;
 use jobparts::part::{List, Wrong};
 use limits::sizes::LAST_LINK;
@@ -23,13 +25,14 @@ use limits::sizes::LAST_LINK;
 const FURTHER_STRINGS: usize = LAST_LINK as usize - 1;
 
 fn text_format<'a>(cursor: &mut Cursor<'a>) -> Result<TextFormat<'a>, Wrong>
-    ensures { Takes text_format_slots result cursor.old cursor.new (groups_at (parts_of Pc) []) }
+    ensures { let read = groups_at (label_parts_of Pc) [] in
+        Takes text_format_parts result cursor.old cursor.new read }
 {
     let field = text_field(cursor)?;
     let origin = point_at(cursor)?;
     let magnification = magnification_at(cursor)?;
     let lettering = lettering_at(cursor)?;
-    let check = check_figure(cursor)?;
+    let check = check_option(cursor)?;
     let extras = extras_at(cursor)?;
     Ok(TextFormat {
         field,
@@ -42,7 +45,8 @@ fn text_format<'a>(cursor: &mut Cursor<'a>) -> Result<TextFormat<'a>, Wrong>
 }
 
 fn field_text<'a>(cursor: &mut Cursor<'a>) -> Result<FieldText<'a>, Wrong>
-    ensures { Takes field_text_slots result cursor.old cursor.new (groups_at (parts_of Rc) []) }
+    ensures { let read = groups_at (label_parts_of Rc) [] in
+        Takes field_text_parts result cursor.old cursor.new read }
 {
     let field = text_field(cursor)?;
     let text = cursor.text()?;
@@ -50,7 +54,8 @@ fn field_text<'a>(cursor: &mut Cursor<'a>) -> Result<FieldText<'a>, Wrong>
 }
 
 fn bar_format<'a>(cursor: &mut Cursor<'a>) -> Result<BarFormat<'a>, Wrong>
-    ensures { Takes bar_format_slots result cursor.old cursor.new (groups_at (parts_of Xb) []) }
+    ensures { let read = groups_at (label_parts_of Xb) [] in
+        Takes bar_format_parts result cursor.old cursor.new read }
 {
     let field = bar_field(cursor)?;
     let origin = point_at(cursor)?;
@@ -70,7 +75,8 @@ fn bar_format<'a>(cursor: &mut Cursor<'a>) -> Result<BarFormat<'a>, Wrong>
 
 // Kept so: one function for both texts would speak of a field's digits and limit in place of the two rows of the table.
 fn bar_text<'a>(cursor: &mut Cursor<'a>) -> Result<FieldText<'a>, Wrong>
-    ensures { Takes field_text_slots result cursor.old cursor.new (groups_at (parts_of Rb) []) }
+    ensures { let read = groups_at (label_parts_of Rb) [] in
+        Takes field_text_parts result cursor.old cursor.new read }
 {
     let field = bar_field(cursor)?;
     let text = cursor.text()?;
@@ -78,7 +84,8 @@ fn bar_text<'a>(cursor: &mut Cursor<'a>) -> Result<FieldText<'a>, Wrong>
 }
 
 fn line<'a>(cursor: &mut Cursor<'a>) -> Result<Line<'a>, Wrong>
-    ensures { Takes line_slots result cursor.old cursor.new (groups_at (parts_of Lc) []) }
+    ensures { let read = groups_at (label_parts_of Lc) [] in
+        Takes line_parts result cursor.old cursor.new read }
 {
     let ends = line_ends(cursor)?;
     let shape = line_shape(cursor)?;
@@ -86,7 +93,8 @@ fn line<'a>(cursor: &mut Cursor<'a>) -> Result<Line<'a>, Wrong>
 }
 
 fn area<'a>(cursor: &mut Cursor<'a>) -> Result<Area<'a>, Wrong>
-    ensures { Takes area_slots result cursor.old cursor.new (groups_at (parts_of Xr) []) }
+    ensures { let read = groups_at (label_parts_of Xr) [] in
+        Takes area_parts result cursor.old cursor.new read }
 {
     cursor.byte(b';')?;
     let from = point_at(cursor)?;
@@ -100,7 +108,8 @@ fn area<'a>(cursor: &mut Cursor<'a>) -> Result<Area<'a>, Wrong>
 }
 
 fn issue<'a>(cursor: &mut Cursor<'a>) -> Result<Issue<'a>, Wrong>
-    ensures { Takes issue_slots result cursor.old cursor.new (groups_at (parts_of Xs) []) }
+    ensures { let read = groups_at (station_parts_of Xs) [] in
+        Takes issue_parts result cursor.old cursor.new read }
 {
     let count = issue_count(cursor)?;
     let setup = issue_setup(cursor)?;
@@ -108,7 +117,8 @@ fn issue<'a>(cursor: &mut Cursor<'a>) -> Result<Issue<'a>, Wrong>
 }
 
 fn recall<'a>(cursor: &mut Cursor<'a>) -> Result<Recall<'a>, Wrong>
-    ensures { Takes recall_slots result cursor.old cursor.new (groups_at (parts_of Xq) []) }
+    ensures { let read = groups_at (station_parts_of Xq) [] in
+        Takes recall_parts result cursor.old cursor.new read }
 {
     let form = form_at(cursor)?;
     let target = comma_letter(cursor, b'L', b'M')?;
@@ -116,35 +126,65 @@ fn recall<'a>(cursor: &mut Cursor<'a>) -> Result<Recall<'a>, Wrong>
 }
 
 fn store_b(cursor: &mut Cursor<'_>) -> Result<(), Wrong>
-    ensures { Takes (λ _. []) result cursor.old cursor.new (groups_at (parts_of J1) []) }
+    ensures { let read = groups_at (station_parts_of J1) [] in
+        Takes (λ _. []) result cursor.old cursor.new read }
 {
     cursor.byte(b';')?;
     cursor.byte(b'B')
 }
 
-// The command that the letters tell, with all its parts.
-pub(crate) fn command<'a>(letters: Letters, cursor: &mut Cursor<'a>) -> Result<Command<'a>, Wrong>
-    ensures parts { Takes (λ c. (plain_of c).parts) result cursor.old cursor.new (groups_at (parts_of letters) []) }
-    ensures letters { IfOk result (λ c. (plain_of c).letters ≡ letters) }
+// The command to the label that the letters tell, with all its parts.
+fn label_command<'a>(
+    letters: LabelLetters,
+    cursor: &mut Cursor<'a>,
+) -> Result<LabelCommand<'a>, Wrong>
+    ensures parts { let read = groups_at (label_parts_of letters) [] in
+        Takes label_slots result cursor.old cursor.new read }
+    ensures letters { IfOk result (λ c. label_letters c ≡ letters) }
 {
     match letters {
-        Letters::D => sizes_at(cursor).map(Command::SetSize),
-        Letters::C => Ok(Command::Clear),
-        Letters::Pc => text_format(cursor).map(Command::FormatText),
-        Letters::Xb => bar_format(cursor).map(Command::FormatBar),
-        Letters::RcLinks => cursor
+        LabelLetters::D => sizes_at(cursor).map(LabelCommand::SetSize),
+        LabelLetters::C => Ok(LabelCommand::Clear),
+        LabelLetters::Pc => text_format(cursor).map(LabelCommand::FormatText),
+        LabelLetters::Xb => bar_format(cursor).map(LabelCommand::FormatBar),
+        LabelLetters::RcLinks => cursor
             .list_part(List::Strings, FURTHER_STRINGS)
-            .map(Command::SetLinks),
-        Letters::Rc => field_text(cursor).map(Command::SetText),
-        Letters::Rb => bar_text(cursor).map(Command::SetBar),
-        Letters::Lc => line(cursor).map(Command::DrawLine),
-        Letters::Xr => area(cursor).map(Command::MarkArea),
-        Letters::Xs => issue(cursor).map(Command::PrintIssue),
-        Letters::Xo => form_at(cursor).map(Command::BeginSaving),
-        Letters::Xp => Ok(Command::EndSaving),
-        Letters::Xq => recall(cursor).map(Command::RecallForm),
-        Letters::J1 => store_b(cursor).map(|()| Command::EmptyStore),
-        Letters::Ws => Ok(Command::WriteStatus),
-        Letters::Wr => Ok(Command::Reset),
+            .map(LabelCommand::SetLinks),
+        LabelLetters::Rc => field_text(cursor).map(LabelCommand::SetText),
+        LabelLetters::Rb => bar_text(cursor).map(LabelCommand::SetBar),
+        LabelLetters::Lc => line(cursor).map(LabelCommand::DrawLine),
+        LabelLetters::Xr => area(cursor).map(LabelCommand::MarkArea),
+    }
+}
+
+// The command to the station itself that the letters tell, with all its parts.
+fn station_command<'a>(
+    letters: StationLetters,
+    cursor: &mut Cursor<'a>,
+) -> Result<StationCommand<'a>, Wrong>
+    ensures parts { let read = groups_at (station_parts_of letters) [] in
+        Takes station_slots result cursor.old cursor.new read }
+    ensures letters { IfOk result (λ c. station_letters c ≡ letters) }
+{
+    match letters {
+        StationLetters::Xs => issue(cursor).map(StationCommand::PrintIssue),
+        StationLetters::Xo => form_at(cursor).map(StationCommand::BeginSaving),
+        StationLetters::Xp => Ok(StationCommand::EndSaving),
+        StationLetters::Xq => recall(cursor).map(StationCommand::RecallForm),
+        StationLetters::J1 => store_b(cursor).map(|()| StationCommand::EmptyStore),
+        StationLetters::Ws => Ok(StationCommand::WriteStatus),
+        StationLetters::Wr => Ok(StationCommand::Reset),
+    }
+}
+
+// The command that the letters tell, with all its parts.
+pub(crate) fn command<'a>(letters: Letters, cursor: &mut Cursor<'a>) -> Result<Command<'a>, Wrong>
+    ensures parts { let read = groups_at (parts_of letters) [] in
+        Takes (λ c. (seen_command c).parts) result cursor.old cursor.new read }
+    ensures letters { IfOk result (λ c. (seen_command c).letters ≡ letters) }
+{
+    match letters {
+        Letters::OfLabel(letters) => label_command(letters, cursor).map(Command::Label),
+        Letters::OfStation(letters) => station_command(letters, cursor).map(Command::Station),
     }
 }

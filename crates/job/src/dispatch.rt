@@ -1,38 +1,18 @@
 // Tells a command by its letters, and reads it.
 ghost use Rattle.std.specs.Prelude.{◌≡◌, drop};
-ghost use Rattle.jobgroups.specs.Commands.{plain, command_at};
+ghost use Rattle.jobgroups.specs.Commands.{seen_reading, command_at};
 ghost use Rattle.jobgroups.specs.Table.{order};
 ghost use Rattle.job.specs.Reading.{first_led, parsed_at};
 
 use crate::commands::command;
 use jobgroups::command::Command;
-use jobgroups::letters::Letters;
+use jobgroups::letters::{Letters, ORDER};
 use jobparts::bytes::rest_at;
 use jobparts::cursor::Cursor;
 use jobparts::part::{ReadRefusal, Wrong};
 
-// The order in which letters are tried: `RC;` before `RC`.
-const ORDER: [Letters; 16] = [
-    Letters::D,
-    Letters::C,
-    Letters::Pc,
-    Letters::Xb,
-    Letters::RcLinks,
-    Letters::Rc,
-    Letters::Rb,
-    Letters::Lc,
-    Letters::Xr,
-    Letters::Xs,
-    Letters::Xo,
-    Letters::Xp,
-    Letters::Xq,
-    Letters::J1,
-    Letters::Ws,
-    Letters::Wr,
-];
-
-// The first letters in that order with which the bytes begin.
-pub(crate) fn letters_at(bytes: &[u8]) -> Option<Letters>
+// The first letters, in the order in which they are tried, with which the bytes begin.
+pub fn letters_at(bytes: &[u8]) -> Option<Letters>
     ensures { result ≡ first_led order bytes.now }
 {
     ORDER
@@ -46,9 +26,9 @@ pub(crate) fn command_at<'a>(
     letters: Letters,
     cursor: &mut Cursor<'a>,
 ) -> Result<Command<'a>, Wrong>
-    ensures { plain result ≡ command_at letters cursor.old.body.now cursor.old.at }
+    ensures { seen_reading result ≡ command_at letters cursor.old.body.now cursor.old.at }
 {
-    // Kept so: by `?` the command is moved once more; read_on has the measure.
+    // Kept so: by `?` the command is moved once more.
     let command = command(letters, cursor);
     if command.is_ok() {
         cursor.end()?;
@@ -58,7 +38,7 @@ pub(crate) fn command_at<'a>(
 
 // Reads a body from the place behind its ESC; `at` is the place of the ESC.
 pub(crate) fn parse<'a>(body: &'a [u8], at: usize, start: usize) -> Result<Command<'a>, Wrong>
-    ensures { plain result ≡ parsed_at (first_led order (drop start body.now)) body.now at start }
+    ensures { seen_reading result ≡ parsed_at (first_led order (drop start body.now)) body.now at start }
 {
     let letters = letters_at(rest_at(body, start)).ok_or(Wrong {
         refusal: ReadRefusal::UnknownLetters,

@@ -5,7 +5,7 @@ ghost use Rattle.job.specs.Reading.{refusal_of, fault_of};
 use faults::{Fault, Refusal};
 use jobparts::part::ReadRefusal;
 
-// A refusal with its place and the place where reading goes on.
+/// A refusal with its place and the place where reading goes on.
 #[derive(Clone, Copy, PartialEq, Eq, Debug)]
 pub struct ReadFault {
     pub refusal: ReadRefusal,

@@ -1,7 +1,6 @@
 // Reads the command at a place of a job.
-// Kept so: a reader takes a job and a place, as its callers have them; behind the ESC a cursor takes their place.
 ghost use Rattle.std.specs.Prelude.{◌≡◌, ◌<◌, ◌≤◌, length, IfOk};
-ghost use Rattle.job.specs.Reading.{before, next_escape, open_at, begin_at, ending_at, read_at, plain_read, plain_answer, answer_of, next_of};
+ghost use Rattle.job.specs.Reading.{before, next_escape, bounds_at, begin_at, ending_at, read_at, seen_read, seen_answer, answer_of, next_of};
 
 use crate::dispatch::parse;
 use crate::fault::ReadFault;
@@ -16,7 +15,7 @@ const LF: u8 = 0x0a;
 
 const NUL: u8 = 0;
 
-// How many bytes stand before the first of a value; all, where there is none.
+/// How many bytes stand before the first of a value; all, where there is none.
 pub fn count_before(bytes: &[u8], b: u8) -> usize
     ensures count { result ≡ before b bytes.now }
     ensures within { result ≤ length bytes.now }
@@ -32,9 +31,9 @@ fn next_escape(job: &[u8], at: usize) -> usize
     at + 1 + count_before(rest_at(job, at + 1), ESC)
 }
 
-// The job is not too long, and the place not past its end: what is tested before anything else.
-pub fn open(job: &[u8], at: usize) -> Result<(), ReadFault>
-    ensures { result ≡ open_at job.now at }
+/// The job is not too long, and the place not past its end: what is tested before anything else.
+pub fn check_bounds(job: &[u8], at: usize) -> Result<(), ReadFault>
+    ensures { result ≡ bounds_at job.now at }
 {
     if job.len() > LONGEST_JOB || at > job.len() {
         return Err(ReadFault {
@@ -85,14 +84,13 @@ fn ending(job: &[u8], at: usize) -> Result<usize, ReadFault>
 
 // The command at a place and the place behind it.
 fn read_on<'a>(job: &'a [u8], at: usize) -> Result<(Command<'a>, usize), ReadFault>
-    ensures { plain_read result ≡ read_at job.now at }
+    ensures { seen_read result ≡ read_at job.now at }
 {
-    open(job, at)?;
+    check_bounds(job, at)?;
     begin(job, at)?;
     let end = ending(job, at)?;
     let next = end + 2;
-    // Kept so: by map_err and `?` here and in command_at a command of 400 bytes is moved twice more: to read 60,000 bytes of data
-    // commands took 4.8 million instructions so, and takes 4.0.
+    // Kept so: by map_err and `?` here and in command_at a command of 400 bytes is moved twice more.
     match parse(first(job, end), at, at + 1) {
         Ok(command) => Ok((command, next)),
         Err(wrong) => Err(ReadFault {
@@ -103,9 +101,9 @@ fn read_on<'a>(job: &'a [u8], at: usize) -> Result<(Command<'a>, usize), ReadFau
     }
 }
 
-// The command at a place or why there is none, and the place where reading goes on.
+/// The command at a place or why there is none, and the place where reading goes on.
 pub fn read<'a>(job: &'a [u8], at: usize) -> (Result<Command<'a>, ReadFault>, usize)
-    ensures answer { plain_answer result.0 ≡ answer_of (read_at job.now at) }
+    ensures answer { seen_answer result.0 ≡ answer_of (read_at job.now at) }
     ensures next { result.1 ≡ next_of (read_at job.now at) }
 {
     match read_on(job, at) {

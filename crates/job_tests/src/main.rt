@@ -11,7 +11,6 @@ use job::read::{count_before, read};
 use jobgroups::command::Command;
 use jobparts::bytes::{first, rest_at};
 use jobparts::values::number_of;
-use jobvalues::commands::letters;
 use std::alloc::AllocError;
 use std::io;
 use std::io::Read;
@@ -54,7 +53,7 @@ fn pad(job: &mut Vec<u8>, count: u64) -> Result<(), AllocError> {
 fn show(rt: &HostRuntime, answer: Result<Command<'_>, ReadFault>, next: usize) -> io::Result<()> {
     match answer {
         Ok(command) => {
-            let letters = letters(command);
+            let letters = command.letters();
             println!(rt; "ok {letters} {next}")
         }
         Err(fault) => {

@@ -1,16 +1,26 @@
 -- A command as it was read, with places and bytes as numbers and lists.
---   Plain         a command's letters and its parts in the order of the table
---   slots_of..    the parts of the code's command, in that order
+--   CommandSeen         a command's letters and its parts in the order of the table
+--   .._slots      the parts of the code's command, in that order
+--   label_letters, station_letters   the letters of a command to the label, and of one to the station itself
+--   seen_command      a command of the code so
 --   command_at c  what the table says of a body of the command c whose parts begin at a place
 use Rattle.std.specs.Prelude.{ℕ, List, [], ◌∷◌, ◌++◌, Ok, Err, Result}
 use Rattle.jobparts.specs.Grammar.{row_at}
-use Rattle.jobparts.specs.Slots.{Slot, then, slot_of, option_slot, source_slot}
+use Rattle.jobparts.specs.Parts.{PartSeen, then, seen_part, seen_option, seen_source}
 use Rattle.jobparts.specs.declared.part.Wrong.{Wrong}
 use Rattle.jobgroups.specs.Table.{parts_of}
 use Rattle.jobgroups.specs.declared.letters.Letters.{Letters}
-use Rattle.jobgroups.specs.declared.letters.Letters.TheVariants.{D, C, Pc, Xb, RcLinks, Rc, Rb, Lc, Xr, Xs, Xo, Xp, Xq, J1, Ws, Wr}
+use Rattle.jobgroups.specs.declared.letters.Letters.TheVariants.{OfLabel, OfStation}
+use Rattle.jobgroups.specs.declared.letters.LabelLetters.{LabelLetters}
+use Rattle.jobgroups.specs.declared.letters.LabelLetters.TheVariants.{D, C, Pc, Xb, RcLinks, Rc, Rb, Lc, Xr}
+use Rattle.jobgroups.specs.declared.letters.StationLetters.{StationLetters}
+use Rattle.jobgroups.specs.declared.letters.StationLetters.TheVariants.{Xs, Xo, Xp, Xq, J1, Ws, Wr}
 use Rattle.jobgroups.specs.declared.command.Command.{Command}
-use Rattle.jobgroups.specs.declared.command.Command.TheVariants.{SetSize, Clear, FormatText, FormatBar, SetLinks, SetText, SetBar, DrawLine, MarkArea, PrintIssue, BeginSaving, EndSaving, RecallForm, EmptyStore, WriteStatus, Reset}
+use Rattle.jobgroups.specs.declared.command.Command.TheVariants.{Label, Station}
+use Rattle.jobgroups.specs.declared.command.LabelCommand.{LabelCommand}
+use Rattle.jobgroups.specs.declared.command.LabelCommand.TheVariants.{SetSize, Clear, FormatText, FormatBar, SetLinks, SetText, SetBar, DrawLine, MarkArea}
+use Rattle.jobgroups.specs.declared.command.StationCommand.{StationCommand}
+use Rattle.jobgroups.specs.declared.command.StationCommand.TheVariants.{PrintIssue, BeginSaving, EndSaving, RecallForm, EmptyStore, WriteStatus, Reset}
 use Rattle.jobgroups.specs.declared.command.Size.{Size}
 use Rattle.jobgroups.specs.declared.command.Point.{Point}
 use Rattle.jobgroups.specs.declared.command.Magnification.{Magnification}
@@ -32,95 +42,125 @@ use Rattle.jobgroups.specs.declared.command.Area.{Area}
 use Rattle.jobgroups.specs.declared.command.Issue.{Issue}
 use Rattle.jobgroups.specs.declared.command.Recall.{Recall}
 
-pub record Plain : Type 0 where
+pub record CommandSeen : Type 0 where
   pub letters : Letters
-  pub parts : List Slot
+  pub parts : List PartSeen
 
-abbrev pub size_slots : Size → List Slot
-size_slots s = slot_of s.pitch ∷ slot_of s.width ∷ slot_of s.length ∷ []
+abbrev pub size_parts : Size → List PartSeen
+size_parts s = seen_part s.pitch ∷ seen_part s.width ∷ seen_part s.length ∷ []
 
-abbrev pub point_slots : Point → List Slot
-point_slots p = slot_of p.x ∷ slot_of p.y ∷ []
+abbrev pub point_parts : Point → List PartSeen
+point_parts p = seen_part p.x ∷ seen_part p.y ∷ []
 
-abbrev pub magnification_slots : Magnification → List Slot
-magnification_slots m = slot_of m.across ∷ slot_of m.down ∷ []
+abbrev pub magnification_parts : Magnification → List PartSeen
+magnification_parts m = seen_part m.across ∷ seen_part m.down ∷ []
 
-abbrev pub lettering_slots : Lettering → List Slot
-lettering_slots l = slot_of l.font ∷ slot_of l.rotation ∷ slot_of l.attribute ∷ []
+abbrev pub lettering_parts : Lettering → List PartSeen
+lettering_parts l = seen_part l.font ∷ seen_part l.rotation ∷ seen_part l.attribute ∷ []
 
-abbrev pub extras_slots : Extras → List Slot
-extras_slots e = option_slot e.step ∷ option_slot e.zeros ∷ source_slot e.source ∷ []
+abbrev pub extras_parts : Extras → List PartSeen
+extras_parts e = seen_option e.step ∷ seen_option e.kept ∷ seen_source e.source ∷ []
 
-abbrev pub type_slots : BarType → List Slot
-type_slots t = slot_of t.kind ∷ slot_of t.check ∷ []
+abbrev pub type_parts : BarType → List PartSeen
+type_parts t = seen_part t.kind ∷ seen_part t.check ∷ []
 
-abbrev pub widths_slots : Widths → List Slot
-widths_slots w =
-    slot_of w.narrow_bar ∷ slot_of w.narrow_space ∷ slot_of w.wide_bar ∷ slot_of w.wide_space ∷ slot_of w.gap ∷ []
+abbrev pub widths_parts : Widths → List PartSeen
+widths_parts w =
+    seen_part w.narrow_bar ∷ seen_part w.narrow_space ∷ seen_part w.wide_bar ∷ seen_part w.wide_space ∷ seen_part w.gap ∷ []
 
-abbrev pub height_slots : Height → List Slot
-height_slots h = slot_of h.rotation ∷ slot_of h.height ∷ []
+abbrev pub height_parts : Height → List PartSeen
+height_parts h = seen_part h.rotation ∷ seen_part h.height ∷ []
 
-abbrev pub ends_slots : Ends → List Slot
-ends_slots e = point_slots e.from ++ point_slots e.to
+abbrev pub ends_parts : Ends → List PartSeen
+ends_parts e = point_parts e.from ++ point_parts e.to
 
-abbrev pub shape_slots : Shape → List Slot
-shape_slots s = slot_of s.kind ∷ slot_of s.dots ∷ []
+abbrev pub shape_parts : Shape → List PartSeen
+shape_parts s = seen_part s.kind ∷ seen_part s.dots ∷ []
 
-abbrev pub count_slots : Count → List Slot
-count_slots n = slot_of n.labels ∷ slot_of n.cut ∷ []
+abbrev pub count_parts : Count → List PartSeen
+count_parts n = seen_part n.labels ∷ seen_part n.cut ∷ []
 
-abbrev pub form_slots : Form → List Slot
-form_slots f = slot_of f.form ∷ slot_of f.response ∷ []
+abbrev pub form_parts : Form → List PartSeen
+form_parts f = seen_part f.form ∷ seen_part f.response ∷ []
 
-abbrev pub setup_slots : Setup → List Slot
-setup_slots s =
-    slot_of s.sensor ∷ slot_of s.mode ∷ slot_of s.speed ∷ slot_of s.ribbon ∷ slot_of s.rotation ∷ slot_of s.response ∷ []
+abbrev pub setup_parts : Setup → List PartSeen
+setup_parts s =
+    seen_part s.sensor ∷ seen_part s.mode ∷ seen_part s.speed ∷ seen_part s.ribbon ∷ seen_part s.rotation
+    ∷ seen_part s.response ∷ []
 
-abbrev pub text_format_slots : TextFormat → List Slot
-text_format_slots f =
-    slot_of f.field ∷ (point_slots f.origin ++ (magnification_slots f.magnification ++ (lettering_slots f.lettering ++ option_slot f.check ∷ extras_slots f.extras)))
+abbrev pub text_format_parts : TextFormat → List PartSeen
+text_format_parts f =
+    seen_part f.field ∷ (point_parts f.origin ++
+    (magnification_parts f.magnification ++
+    (lettering_parts f.lettering ++ seen_option f.check ∷ extras_parts f.extras)))
 
-abbrev pub bar_format_slots : BarFormat → List Slot
-bar_format_slots f =
-    slot_of f.field ∷ (point_slots f.origin ++ (type_slots f.code ++ (widths_slots f.widths ++ (height_slots f.height ++ extras_slots f.extras))))
+abbrev pub bar_format_parts : BarFormat → List PartSeen
+bar_format_parts f =
+    seen_part f.field ∷ (point_parts f.origin ++
+    (type_parts f.code ++ (widths_parts f.widths ++ (height_parts f.height ++ extras_parts f.extras))))
 
-abbrev pub field_text_slots : FieldText → List Slot
-field_text_slots t = slot_of t.field ∷ slot_of t.text ∷ []
+abbrev pub field_text_parts : FieldText → List PartSeen
+field_text_parts t = seen_part t.field ∷ seen_part t.text ∷ []
 
-abbrev pub line_slots : Line → List Slot
-line_slots l = ends_slots l.ends ++ shape_slots l.shape
+abbrev pub line_parts : Line → List PartSeen
+line_parts l = ends_parts l.ends ++ shape_parts l.shape
 
-abbrev pub area_slots : Area → List Slot
-area_slots a = ends_slots a.ends ++ slot_of a.action ∷ []
+abbrev pub area_parts : Area → List PartSeen
+area_parts a = ends_parts a.ends ++ seen_part a.action ∷ []
 
-abbrev pub issue_slots : Issue → List Slot
-issue_slots i = count_slots i.count ++ setup_slots i.setup
+abbrev pub issue_parts : Issue → List PartSeen
+issue_parts i = count_parts i.count ++ setup_parts i.setup
 
-abbrev pub recall_slots : Recall → List Slot
-recall_slots r = form_slots r.form ++ slot_of r.target ∷ []
+abbrev pub recall_parts : Recall → List PartSeen
+recall_parts r = form_parts r.form ++ seen_part r.target ∷ []
 
-abbrev pub plain_of : Command → Plain
-plain_of (SetSize s) = record { letters = D; parts = size_slots s }
-plain_of Clear = record { letters = C; parts = [] }
-plain_of (FormatText f) = record { letters = Pc; parts = text_format_slots f }
-plain_of (FormatBar f) = record { letters = Xb; parts = bar_format_slots f }
-plain_of (SetLinks t) = record { letters = RcLinks; parts = slot_of t ∷ [] }
-plain_of (SetText t) = record { letters = Rc; parts = field_text_slots t }
-plain_of (SetBar t) = record { letters = Rb; parts = field_text_slots t }
-plain_of (DrawLine l) = record { letters = Lc; parts = line_slots l }
-plain_of (MarkArea a) = record { letters = Xr; parts = area_slots a }
-plain_of (PrintIssue i) = record { letters = Xs; parts = issue_slots i }
-plain_of (BeginSaving s) = record { letters = Xo; parts = form_slots s }
-plain_of EndSaving = record { letters = Xp; parts = [] }
-plain_of (RecallForm r) = record { letters = Xq; parts = recall_slots r }
-plain_of EmptyStore = record { letters = J1; parts = [] }
-plain_of WriteStatus = record { letters = Ws; parts = [] }
-plain_of Reset = record { letters = Wr; parts = [] }
+abbrev pub label_letters : LabelCommand → LabelLetters
+label_letters (SetSize s) = D
+label_letters Clear = C
+label_letters (FormatText f) = Pc
+label_letters (FormatBar f) = Xb
+label_letters (SetLinks t) = RcLinks
+label_letters (SetText t) = Rc
+label_letters (SetBar t) = Rb
+label_letters (DrawLine l) = Lc
+label_letters (MarkArea a) = Xr
 
-abbrev pub plain : Result Command Wrong → Result Plain Wrong
-plain (Ok c) = Ok (plain_of c)
-plain (Err e) = Err e
+abbrev pub label_slots : LabelCommand → List PartSeen
+label_slots (SetSize s) = size_parts s
+label_slots Clear = []
+label_slots (FormatText f) = text_format_parts f
+label_slots (FormatBar f) = bar_format_parts f
+label_slots (SetLinks t) = seen_part t ∷ []
+label_slots (SetText t) = field_text_parts t
+label_slots (SetBar t) = field_text_parts t
+label_slots (DrawLine l) = line_parts l
+label_slots (MarkArea a) = area_parts a
 
-abbrev pub command_at : Letters → List ℕ → ℕ → Result Plain Wrong
-command_at c body at = then (row_at (parts_of c) [] body at) (λ slots. Ok (record { letters = c; parts = slots }))
+abbrev pub station_letters : StationCommand → StationLetters
+station_letters (PrintIssue i) = Xs
+station_letters (BeginSaving s) = Xo
+station_letters EndSaving = Xp
+station_letters (RecallForm r) = Xq
+station_letters EmptyStore = J1
+station_letters WriteStatus = Ws
+station_letters Reset = Wr
+
+abbrev pub station_slots : StationCommand → List PartSeen
+station_slots (PrintIssue i) = issue_parts i
+station_slots (BeginSaving s) = form_parts s
+station_slots EndSaving = []
+station_slots (RecallForm r) = recall_parts r
+station_slots EmptyStore = []
+station_slots WriteStatus = []
+station_slots Reset = []
+
+abbrev pub seen_command : Command → CommandSeen
+seen_command (Label c) = record { letters = OfLabel (label_letters c); parts = label_slots c }
+seen_command (Station c) = record { letters = OfStation (station_letters c); parts = station_slots c }
+
+abbrev pub seen_reading : Result Command Wrong → Result CommandSeen Wrong
+seen_reading (Ok c) = Ok (seen_command c)
+seen_reading (Err e) = Err e
+
+abbrev pub command_at : Letters → List ℕ → ℕ → Result CommandSeen Wrong
+command_at c body at = then (row_at (parts_of c) [] body at) (λ parts. Ok (record { letters = c; parts = parts }))

@@ -2,24 +2,32 @@
 -- docs/COMMANDS.md says the same in words.
 --   letters_of c  the bytes that a body of this command begins with
 --   parts_of c    the groups of items behind the letters
---   order         the commands in the order in which letters are tried: `RC;` before `RC`
-use Rattle.std.specs.Prelude.{ℕ, Bool, true, false, cond, List, [], ◌∷◌, ◌==◌, nat_eq, nat_le, slice_index_or}
+--   order         the letters in the order in which they are tried: `RC;` before `RC`
+use Rattle.std.specs.Prelude.{ℕ, Bool, true, false, cond, List, [], ◌∷◌, ◌==◌, nat_eq, nat_le, slice_index, slice_index_or, codes}
 use Rattle.limits.specs.Bytes.{between}
 use Rattle.limits.specs.Limits.{longest_finished, last_form, text_fields, bar_fields, most_links, last_link}
 use Rattle.jobparts.specs.Grammar.{Item, fixed, part, number, chosen, lettered, signed, text, strings, source, one_of, one_letter}
 use Rattle.jobparts.specs.Items.{Admits}
 use Rattle.jobparts.specs.Kinds.{stands}
 use Rattle.jobparts.specs.Values.{number_of}
-use Rattle.jobparts.specs.declared.part.Kind.TheVariants.{Digit, Capital, CapitalOrDigit}
+use Rattle.jobparts.specs.declared.part.ByteKind.TheVariants.{Digit, Capital, CapitalOrDigit}
 use Rattle.jobgroups.specs.declared.letters.Letters.{Letters}
-use Rattle.jobgroups.specs.declared.letters.Letters.TheVariants.{D, C, Pc, Xb, RcLinks, Rc, Rb, Lc, Xr, Xs, Xo, Xp, Xq, J1, Ws, Wr}
+use Rattle.jobgroups.specs.declared.letters.Letters.TheVariants.{OfLabel, OfStation}
+use Rattle.jobgroups.specs.declared.letters.LabelLetters.{LabelLetters}
+use Rattle.jobgroups.specs.declared.letters.LabelLetters.TheVariants.{D, C, Pc, Xb, RcLinks, Rc, Rb, Lc, Xr}
+use Rattle.jobgroups.specs.declared.letters.StationLetters.{StationLetters}
+use Rattle.jobgroups.specs.declared.letters.StationLetters.TheVariants.{Xs, Xo, Xp, Xq, J1, Ws, Wr}
+use Rattle.jobgroups.specs.declared.letters.TheConstants.{ORDER}
 
--- the bytes , ; and so on, by name
-abbrev comma : Item
-comma = fixed 44
+-- a byte, written as a text of one
+abbrev pub byte_of : List ℕ → ℕ
+byte_of one = slice_index one 0
 
-abbrev semicolon : Item
-semicolon = fixed 59
+abbrev pub comma : Item
+comma = fixed (byte_of (codes ","))
+
+abbrev pub semicolon : Item
+semicolon = fixed (byte_of (codes ";"))
 
 -- places in tenths of a millimetre
 abbrev place_x : Item
@@ -44,7 +52,8 @@ fits_type earlier own behind = check_fits (number_of own) (number_of (slice_inde
 
 -- a line is told by `,0` behind the last coordinate; it is level or upright. The parts before are X, Y and X
 unfoldable pub line_ahead : List ℕ → Bool
-line_ahead behind = cond (stands (nat_eq 44) behind 0) (stands (nat_eq 48) behind 1) false
+line_ahead behind =
+    cond (stands (nat_eq (byte_of (codes ","))) behind 0) (stands (nat_eq (byte_of (codes "0"))) behind 1) false
 
 unfoldable pub end_fits : Bool → ℕ → ℕ → ℕ → ℕ → Bool
 end_fits line x y x' y' = cond (between 0 499 y') (cond line (cond (x == x') true (y == y')) true) false
@@ -79,12 +88,12 @@ lettering =
     comma ∷ part Capital 1 ∷ comma ∷ chosen Digit 2 (one_of (0 ∷ 11 ∷ 22 ∷ 33 ∷ [])) ∷ comma ∷ part Capital 1 ∷ []
 
 -- `,M0` is modulus 10, `,M1` modulus 43
-unfoldable pub check_figure : List Item
-check_figure = lettered 77 1 1 false ∷ []
+unfoldable pub check_option : List Item
+check_option = lettered (byte_of (codes "M")) 1 1 false ∷ []
 
 -- the step, zero suppression, and where the text comes from
 unfoldable pub extras : List Item
-extras = signed 10 false ∷ lettered 90 2 longest_finished true ∷ source most_links ∷ []
+extras = signed 10 false ∷ lettered (byte_of (codes "Z")) 2 longest_finished true ∷ source most_links ∷ []
 
 -- the type of a bar, and its check
 unfoldable pub bar_type : List Item
@@ -92,7 +101,8 @@ bar_type = comma ∷ chosen Digit 1 (one_of (3 ∷ 9 ∷ [])) ∷ comma ∷ chos
 
 unfoldable pub bar_widths : List Item
 bar_widths =
-    comma ∷ part Digit 2 ∷ comma ∷ part Digit 2 ∷ comma ∷ part Digit 2 ∷ comma ∷ part Digit 2 ∷ comma ∷ part Digit 2 ∷ []
+    comma ∷ part Digit 2 ∷ comma ∷ part Digit 2 ∷ comma ∷ part Digit 2 ∷ comma ∷ part Digit 2 ∷ comma
+    ∷ part Digit 2 ∷ []
 
 unfoldable pub bar_height : List Item
 bar_height = comma ∷ number 1 0 3 ∷ comma ∷ part Digit 4 ∷ []
@@ -110,16 +120,17 @@ line_ends = semicolon ∷ place_x ∷ comma ∷ place_y ∷ comma ∷ place_x �
 unfoldable pub line_shape : List Item
 line_shape = comma ∷ number 1 0 1 ∷ comma ∷ number 1 1 9 ∷ []
 
-unfoldable pub comma_letter : ℕ → ℕ → List Item
-comma_letter one other = comma ∷ chosen Capital 1 (one_letter (one ∷ other ∷ [])) ∷ []
+-- one of some letters
+unfoldable pub comma_letter : List ℕ → List Item
+comma_letter letters = comma ∷ chosen Capital 1 (one_letter letters) ∷ []
 
 -- A clears, B inverts
 abbrev pub area_action : List Item
-area_action = comma_letter 65 66
+area_action = comma_letter (codes "AB")
 
 -- `;I,`, labels, and the cut interval
 unfoldable pub issue_count : List Item
-issue_count = semicolon ∷ fixed 73 ∷ comma ∷ number 4 1 9999 ∷ comma ∷ number 3 0 100 ∷ []
+issue_count = semicolon ∷ fixed (byte_of (codes "I")) ∷ comma ∷ number 4 1 9999 ∷ comma ∷ number 3 0 100 ∷ []
 
 -- sensor, mode, speed, ribbon, rotation, response
 unfoldable pub issue_setup : List Item
@@ -131,47 +142,60 @@ form = semicolon ∷ number 2 1 last_form ∷ comma ∷ number 1 0 1 ∷ []
 
 -- L or M
 abbrev pub recall_target : List Item
-recall_target = comma_letter 76 77
+recall_target = comma_letter (codes "LM")
 
 -- J1's `;B`
 abbrev pub store_b : List Item
-store_b = semicolon ∷ fixed 66 ∷ []
+store_b = semicolon ∷ fixed (byte_of (codes "B")) ∷ []
+
+-- `RC` followed by a semicolon sends link strings, and followed by a number a text
+abbrev pub label_letters_of : LabelLetters → List ℕ
+label_letters_of D = codes "D"
+label_letters_of C = codes "C"
+label_letters_of Pc = codes "PC"
+label_letters_of Xb = codes "XB"
+label_letters_of RcLinks = codes "RC;"
+label_letters_of Rc = codes "RC"
+label_letters_of Rb = codes "RB"
+label_letters_of Lc = codes "LC"
+label_letters_of Xr = codes "XR"
+
+abbrev pub station_letters_of : StationLetters → List ℕ
+station_letters_of Xs = codes "XS"
+station_letters_of Xo = codes "XO"
+station_letters_of Xp = codes "XP"
+station_letters_of Xq = codes "XQ"
+station_letters_of J1 = codes "J1"
+station_letters_of Ws = codes "WS"
+station_letters_of Wr = codes "WR"
 
 abbrev pub letters_of : Letters → List ℕ
-letters_of D = 68 ∷ []
-letters_of C = 67 ∷ []
-letters_of Pc = 80 ∷ 67 ∷ []
-letters_of Xb = 88 ∷ 66 ∷ []
-letters_of RcLinks = 82 ∷ 67 ∷ 59 ∷ []
-letters_of Rc = 82 ∷ 67 ∷ []
-letters_of Rb = 82 ∷ 66 ∷ []
-letters_of Lc = 76 ∷ 67 ∷ []
-letters_of Xr = 88 ∷ 82 ∷ []
-letters_of Xs = 88 ∷ 83 ∷ []
-letters_of Xo = 88 ∷ 79 ∷ []
-letters_of Xp = 88 ∷ 80 ∷ []
-letters_of Xq = 88 ∷ 81 ∷ []
-letters_of J1 = 74 ∷ 49 ∷ []
-letters_of Ws = 87 ∷ 83 ∷ []
-letters_of Wr = 87 ∷ 82 ∷ []
+letters_of (OfLabel l) = label_letters_of l
+letters_of (OfStation l) = station_letters_of l
+
+abbrev pub label_parts_of : LabelLetters → List (List Item)
+label_parts_of D = sizes ∷ []
+label_parts_of C = []
+label_parts_of Pc = text_field ∷ point ∷ magnification ∷ lettering ∷ check_option ∷ extras ∷ []
+label_parts_of Xb = bar_field ∷ point ∷ bar_type ∷ bar_widths ∷ bar_height ∷ extras ∷ []
+label_parts_of RcLinks = link_strings ∷ []
+label_parts_of Rc = text_field ∷ whole_text ∷ []
+label_parts_of Rb = bar_field ∷ whole_text ∷ []
+label_parts_of Lc = line_ends ∷ line_shape ∷ []
+label_parts_of Xr = (semicolon ∷ []) ∷ point ∷ (comma ∷ []) ∷ point ∷ area_action ∷ []
+
+abbrev pub station_parts_of : StationLetters → List (List Item)
+station_parts_of Xs = issue_count ∷ issue_setup ∷ []
+station_parts_of Xo = form ∷ []
+station_parts_of Xp = []
+station_parts_of Xq = form ∷ recall_target ∷ []
+station_parts_of J1 = store_b ∷ []
+station_parts_of Ws = []
+station_parts_of Wr = []
 
 abbrev pub parts_of : Letters → List (List Item)
-parts_of D = sizes ∷ []
-parts_of C = []
-parts_of Pc = text_field ∷ point ∷ magnification ∷ lettering ∷ check_figure ∷ extras ∷ []
-parts_of Xb = bar_field ∷ point ∷ bar_type ∷ bar_widths ∷ bar_height ∷ extras ∷ []
-parts_of RcLinks = link_strings ∷ []
-parts_of Rc = text_field ∷ whole_text ∷ []
-parts_of Rb = bar_field ∷ whole_text ∷ []
-parts_of Lc = line_ends ∷ line_shape ∷ []
-parts_of Xr = (semicolon ∷ []) ∷ point ∷ (comma ∷ []) ∷ point ∷ area_action ∷ []
-parts_of Xs = issue_count ∷ issue_setup ∷ []
-parts_of Xo = form ∷ []
-parts_of Xp = []
-parts_of Xq = form ∷ recall_target ∷ []
-parts_of J1 = store_b ∷ []
-parts_of Ws = []
-parts_of Wr = []
+parts_of (OfLabel l) = label_parts_of l
+parts_of (OfStation l) = station_parts_of l
 
 abbrev pub order : List Letters
-order = D ∷ C ∷ Pc ∷ Xb ∷ RcLinks ∷ Rc ∷ Rb ∷ Lc ∷ Xr ∷ Xs ∷ Xo ∷ Xp ∷ Xq ∷ J1 ∷ Ws ∷ Wr ∷ []
+order = ORDER

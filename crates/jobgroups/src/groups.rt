@@ -1,10 +1,10 @@
 // Takes groups of parts that stand together, each with what parts them.
 ghost use Rattle.std.specs.Prelude.{[], ◌∷◌};
 ghost use Rattle.jobparts.specs.Cursors.{Takes};
-ghost use Rattle.jobparts.specs.Grammar.{fixed, number, group_at};
-ghost use Rattle.jobparts.specs.Slots.{part_slots, option_slots};
-ghost use Rattle.jobgroups.specs.Commands.{size_slots, point_slots, magnification_slots, lettering_slots, extras_slots, type_slots, widths_slots, height_slots, ends_slots, shape_slots, count_slots, setup_slots, form_slots};
-ghost use Rattle.jobgroups.specs.Table.{sizes, text_field, bar_field, point, magnification, lettering, check_figure, extras, bar_type, bar_widths, bar_height, line_ends, line_shape, comma_letter, issue_count, issue_setup, form};
+ghost use Rattle.jobparts.specs.Grammar.{number, group_at};
+ghost use Rattle.jobparts.specs.Parts.{part_alone, option_alone};
+ghost use Rattle.jobgroups.specs.Commands.{size_parts, point_parts, magnification_parts, lettering_parts, extras_parts, type_parts, widths_parts, height_parts, ends_parts, shape_parts, count_parts, setup_parts, form_parts};
+ghost use Rattle.jobgroups.specs.Table.{semicolon, sizes, text_field, bar_field, point, magnification, lettering, check_option, extras, bar_type, bar_widths, bar_height, line_ends, line_shape, comma_letter, issue_count, issue_setup, form};
 
 use crate::checks::{bar_check, last_y_at, length_at, letter, one_of};
 use crate::command::{
@@ -12,13 +12,13 @@ use crate::command::{
     Size, Widths,
 };
 use jobparts::cursor::Cursor;
-use jobparts::part::{Kind, Part, Wrong};
+use jobparts::part::{ByteKind, Part, Wrong};
 use limits::sizes::{BAR_FIELDS, LAST_FORM, LONGEST_FINISHED, TEXT_FIELDS};
 
-// pppp,wwww,llll
+/// pppp,wwww,llll
 #[tactic(auto, unfolding(crate::specs::Table::sizes))]
 pub fn sizes_at<'a>(cursor: &mut Cursor<'a>) -> Result<Size<'a>, Wrong>
-    ensures { Takes size_slots result cursor.old cursor.new (group_at sizes []) }
+    ensures { Takes size_parts result cursor.old cursor.new (group_at sizes []) }
 {
     let pitch = cursor.number(4, 0, 1500)?;
     cursor.byte(b',')?;
@@ -34,33 +34,34 @@ pub fn sizes_at<'a>(cursor: &mut Cursor<'a>) -> Result<Size<'a>, Wrong>
 
 // A number from 1 to a highest, and a semicolon.
 fn field<'a>(cursor: &mut Cursor<'a>, count: usize, high: u64) -> Result<Part<'a>, Wrong>
-    ensures { Takes part_slots result cursor.old cursor.new (group_at (number count 1 high ∷ fixed 59 ∷ []) []) }
+    ensures { let read = group_at (number count 1 high ∷ semicolon ∷ []) [] in
+        Takes part_alone result cursor.old cursor.new read }
 {
     let field = cursor.number(count, 1, high)?;
     cursor.byte(b';')?;
     Ok(field)
 }
 
-// nnn;
+/// nnn;
 #[tactic(auto, unfolding(crate::specs::Table::text_field))]
 pub fn text_field<'a>(cursor: &mut Cursor<'a>) -> Result<Part<'a>, Wrong>
-    ensures { Takes part_slots result cursor.old cursor.new (group_at text_field []) }
+    ensures { Takes part_alone result cursor.old cursor.new (group_at text_field []) }
 {
     field(cursor, 3, TEXT_FIELDS as u64)
 }
 
-// nn;
+/// nn;
 #[tactic(auto, unfolding(crate::specs::Table::bar_field))]
 pub fn bar_field<'a>(cursor: &mut Cursor<'a>) -> Result<Part<'a>, Wrong>
-    ensures { Takes part_slots result cursor.old cursor.new (group_at bar_field []) }
+    ensures { Takes part_alone result cursor.old cursor.new (group_at bar_field []) }
 {
     field(cursor, 2, BAR_FIELDS as u64)
 }
 
-// xxxx,yyyy
+/// xxxx,yyyy
 #[tactic(auto, unfolding(crate::specs::Table::point))]
 pub fn point_at<'a>(cursor: &mut Cursor<'a>) -> Result<Point<'a>, Wrong>
-    ensures { Takes point_slots result cursor.old cursor.new (group_at point []) }
+    ensures { Takes point_parts result cursor.old cursor.new (group_at point []) }
 {
     let x = cursor.number(4, 0, 539)?;
     cursor.byte(b',')?;
@@ -68,10 +69,10 @@ pub fn point_at<'a>(cursor: &mut Cursor<'a>) -> Result<Point<'a>, Wrong>
     Ok(Point { x, y })
 }
 
-// ,w,h
+/// ,w,h
 #[tactic(auto, unfolding(crate::specs::Table::magnification))]
 pub fn magnification_at<'a>(cursor: &mut Cursor<'a>) -> Result<Magnification<'a>, Wrong>
-    ensures { Takes magnification_slots result cursor.old cursor.new (group_at magnification []) }
+    ensures { Takes magnification_parts result cursor.old cursor.new (group_at magnification []) }
 {
     cursor.byte(b',')?;
     let across = cursor.number(1, 1, 9)?;
@@ -80,17 +81,17 @@ pub fn magnification_at<'a>(cursor: &mut Cursor<'a>) -> Result<Magnification<'a>
     Ok(Magnification { across, down })
 }
 
-// ,f,rr,a
+/// ,f,rr,a
 #[tactic(auto, unfolding(crate::specs::Table::lettering))]
 pub fn lettering_at<'a>(cursor: &mut Cursor<'a>) -> Result<Lettering<'a>, Wrong>
-    ensures { Takes lettering_slots result cursor.old cursor.new (group_at lettering []) }
+    ensures { Takes lettering_parts result cursor.old cursor.new (group_at lettering []) }
 {
     cursor.byte(b',')?;
-    let font = cursor.part(Kind::Capital, 1)?;
+    let font = cursor.part(ByteKind::Capital, 1)?;
     cursor.byte(b',')?;
     let rotation = one_of(cursor, 2, &[0, 11, 22, 33])?;
     cursor.byte(b',')?;
-    let attribute = cursor.part(Kind::Capital, 1)?;
+    let attribute = cursor.part(ByteKind::Capital, 1)?;
     Ok(Lettering {
         font,
         rotation,
@@ -98,33 +99,29 @@ pub fn lettering_at<'a>(cursor: &mut Cursor<'a>) -> Result<Lettering<'a>, Wrong>
     })
 }
 
-// ,M0 or ,M1, or nothing
-#[tactic(auto, unfolding(crate::specs::Table::check_figure))]
-pub fn check_figure<'a>(cursor: &mut Cursor<'a>) -> Result<Option<Part<'a>>, Wrong>
-    ensures { Takes option_slots result cursor.old cursor.new (group_at check_figure []) }
+/// ,M0 or ,M1, or nothing
+#[tactic(auto, unfolding(crate::specs::Table::check_option))]
+pub fn check_option<'a>(cursor: &mut Cursor<'a>) -> Result<Option<Part<'a>>, Wrong>
+    ensures { Takes option_alone result cursor.old cursor.new (group_at check_option []) }
 {
     cursor.lettered(b'M', 1, 1, false)
 }
 
-// What text and bar formats end with: a step, zero suppression and a source, each of which may be left out.
+/// What text and bar formats end with: a step, zero suppression and a source, each of which may be left out.
 #[tactic(auto, unfolding(crate::specs::Table::extras))]
 pub fn extras_at<'a>(cursor: &mut Cursor<'a>) -> Result<Extras<'a>, Wrong>
-    ensures { Takes extras_slots result cursor.old cursor.new (group_at extras []) }
+    ensures { Takes extras_parts result cursor.old cursor.new (group_at extras []) }
 {
     let step = cursor.signed(10, false)?;
-    let zeros = cursor.lettered(b'Z', 2, LONGEST_FINISHED as u64, true)?;
+    let kept = cursor.lettered(b'Z', 2, LONGEST_FINISHED as u64, true)?;
     let source = cursor.source()?;
-    Ok(Extras {
-        step,
-        zeros,
-        source,
-    })
+    Ok(Extras { step, kept, source })
 }
 
-// ,t,c
+/// ,t,c
 #[tactic(auto, unfolding(crate::specs::Table::bar_type))]
 pub fn bar_type<'a>(cursor: &mut Cursor<'a>) -> Result<BarType<'a>, Wrong>
-    ensures { Takes type_slots result cursor.old cursor.new (group_at bar_type []) }
+    ensures { Takes type_parts result cursor.old cursor.new (group_at bar_type []) }
 {
     cursor.byte(b',')?;
     let kind = one_of(cursor, 1, &[3, 9])?;
@@ -133,21 +130,21 @@ pub fn bar_type<'a>(cursor: &mut Cursor<'a>) -> Result<BarType<'a>, Wrong>
     Ok(BarType { kind, check })
 }
 
-// ,bb,bb,bb,bb,bb
+/// ,bb,bb,bb,bb,bb
 #[tactic(auto, unfolding(crate::specs::Table::bar_widths))]
 pub fn bar_widths<'a>(cursor: &mut Cursor<'a>) -> Result<Widths<'a>, Wrong>
-    ensures { Takes widths_slots result cursor.old cursor.new (group_at bar_widths []) }
+    ensures { Takes widths_parts result cursor.old cursor.new (group_at bar_widths []) }
 {
     cursor.byte(b',')?;
-    let narrow_bar = cursor.part(Kind::Digit, 2)?;
+    let narrow_bar = cursor.part(ByteKind::Digit, 2)?;
     cursor.byte(b',')?;
-    let narrow_space = cursor.part(Kind::Digit, 2)?;
+    let narrow_space = cursor.part(ByteKind::Digit, 2)?;
     cursor.byte(b',')?;
-    let wide_bar = cursor.part(Kind::Digit, 2)?;
+    let wide_bar = cursor.part(ByteKind::Digit, 2)?;
     cursor.byte(b',')?;
-    let wide_space = cursor.part(Kind::Digit, 2)?;
+    let wide_space = cursor.part(ByteKind::Digit, 2)?;
     cursor.byte(b',')?;
-    let gap = cursor.part(Kind::Digit, 2)?;
+    let gap = cursor.part(ByteKind::Digit, 2)?;
     Ok(Widths {
         narrow_bar,
         narrow_space,
@@ -157,22 +154,22 @@ pub fn bar_widths<'a>(cursor: &mut Cursor<'a>) -> Result<Widths<'a>, Wrong>
     })
 }
 
-// ,k,hhhh
+/// ,k,hhhh
 #[tactic(auto, unfolding(crate::specs::Table::bar_height))]
 pub fn bar_height<'a>(cursor: &mut Cursor<'a>) -> Result<Height<'a>, Wrong>
-    ensures { Takes height_slots result cursor.old cursor.new (group_at bar_height []) }
+    ensures { Takes height_parts result cursor.old cursor.new (group_at bar_height []) }
 {
     cursor.byte(b',')?;
     let rotation = cursor.number(1, 0, 3)?;
     cursor.byte(b',')?;
-    let height = cursor.part(Kind::Digit, 4)?;
+    let height = cursor.part(ByteKind::Digit, 4)?;
     Ok(Height { rotation, height })
 }
 
-// ;aaaa,bbbb,cccc,dddd of a line or a rectangle
+/// ;aaaa,bbbb,cccc,dddd of a line or a rectangle
 #[tactic(auto, unfolding(crate::specs::Table::line_ends, crate::specs::Table::point))]
 pub fn line_ends<'a>(cursor: &mut Cursor<'a>) -> Result<Ends<'a>, Wrong>
-    ensures { Takes ends_slots result cursor.old cursor.new (group_at line_ends []) }
+    ensures { Takes ends_parts result cursor.old cursor.new (group_at line_ends []) }
 {
     cursor.byte(b';')?;
     let from = point_at(cursor)?;
@@ -186,10 +183,10 @@ pub fn line_ends<'a>(cursor: &mut Cursor<'a>) -> Result<Ends<'a>, Wrong>
     })
 }
 
-// ,e,f
+/// ,e,f
 #[tactic(auto, unfolding(crate::specs::Table::line_shape))]
 pub fn line_shape<'a>(cursor: &mut Cursor<'a>) -> Result<Shape<'a>, Wrong>
-    ensures { Takes shape_slots result cursor.old cursor.new (group_at line_shape []) }
+    ensures { Takes shape_parts result cursor.old cursor.new (group_at line_shape []) }
 {
     cursor.byte(b',')?;
     let kind = cursor.number(1, 0, 1)?;
@@ -198,19 +195,20 @@ pub fn line_shape<'a>(cursor: &mut Cursor<'a>) -> Result<Shape<'a>, Wrong>
     Ok(Shape { kind, dots })
 }
 
-// A comma and one of two letters
+/// A comma and one of two letters
 #[tactic(auto, unfolding(crate::specs::Table::comma_letter))]
 pub fn comma_letter<'a>(cursor: &mut Cursor<'a>, one: u8, other: u8) -> Result<Part<'a>, Wrong>
-    ensures { Takes part_slots result cursor.old cursor.new (group_at (comma_letter one other) []) }
+    ensures { let read = group_at (comma_letter (one ∷ other ∷ [])) [] in
+        Takes part_alone result cursor.old cursor.new read }
 {
     cursor.byte(b',')?;
     letter(cursor, one, other)
 }
 
-// ;I,nnnn,ccc
+/// ;I,nnnn,ccc
 #[tactic(auto, unfolding(crate::specs::Table::issue_count))]
 pub fn issue_count<'a>(cursor: &mut Cursor<'a>) -> Result<Count<'a>, Wrong>
-    ensures { Takes count_slots result cursor.old cursor.new (group_at issue_count []) }
+    ensures { Takes count_parts result cursor.old cursor.new (group_at issue_count []) }
 {
     cursor.byte(b';')?;
     cursor.byte(b'I')?;
@@ -221,17 +219,17 @@ pub fn issue_count<'a>(cursor: &mut Cursor<'a>) -> Result<Count<'a>, Wrong>
     Ok(Count { labels, cut })
 }
 
-// smvrgh
+/// smvrgh
 #[tactic(auto, unfolding(crate::specs::Table::issue_setup))]
 pub fn issue_setup<'a>(cursor: &mut Cursor<'a>) -> Result<Setup<'a>, Wrong>
-    ensures { Takes setup_slots result cursor.old cursor.new (group_at issue_setup []) }
+    ensures { Takes setup_parts result cursor.old cursor.new (group_at issue_setup []) }
 {
-    let sensor = cursor.part(Kind::Digit, 1)?;
-    let mode = cursor.part(Kind::Capital, 1)?;
-    let speed = cursor.part(Kind::CapitalOrDigit, 1)?;
-    let ribbon = cursor.part(Kind::Digit, 1)?;
-    let rotation = cursor.part(Kind::Digit, 1)?;
-    let response = cursor.part(Kind::Digit, 1)?;
+    let sensor = cursor.part(ByteKind::Digit, 1)?;
+    let mode = cursor.part(ByteKind::Capital, 1)?;
+    let speed = cursor.part(ByteKind::CapitalOrDigit, 1)?;
+    let ribbon = cursor.part(ByteKind::Digit, 1)?;
+    let rotation = cursor.part(ByteKind::Digit, 1)?;
+    let response = cursor.part(ByteKind::Digit, 1)?;
     Ok(Setup {
         sensor,
         mode,
@@ -242,10 +240,10 @@ pub fn issue_setup<'a>(cursor: &mut Cursor<'a>) -> Result<Setup<'a>, Wrong>
     })
 }
 
-// ;nn,b
+/// ;nn,b
 #[tactic(auto, unfolding(crate::specs::Table::form))]
 pub fn form_at<'a>(cursor: &mut Cursor<'a>) -> Result<Form<'a>, Wrong>
-    ensures { Takes form_slots result cursor.old cursor.new (group_at form []) }
+    ensures { Takes form_parts result cursor.old cursor.new (group_at form []) }
 {
     cursor.byte(b';')?;
     let form = cursor.number(2, 1, u64::from(LAST_FORM))?;

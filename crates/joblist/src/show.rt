@@ -1,6 +1,5 @@
 // Prints a command and its parts, one line each.
 use jobgroups::command::*;
-use jobgroups::letters::Letters;
 use jobparts::part::{Part, Source};
 use std::io;
 use std::io::Write;
@@ -32,7 +31,7 @@ fn show_point(rt: &HostRuntime, point: Point<'_>) -> io::Result<()> {
 
 fn show_extras(rt: &HostRuntime, extras: Extras<'_>) -> io::Result<()> {
     show_option(rt, "step", extras.step)?;
-    show_option(rt, "zero-suppression", extras.zeros)?;
+    show_option(rt, "zero-suppression", extras.kept)?;
     match extras.source {
         Source::Nothing => Ok(()),
         Source::Text(p) => show(rt, "text", p),
@@ -82,8 +81,9 @@ fn show_issue(rt: &HostRuntime, i: Issue<'_>) -> io::Result<()> {
     show(rt, "response", i.setup.response)
 }
 
-fn head(rt: &HostRuntime, at: usize, letters: Letters, what: &str) -> io::Result<()> {
-    println!(rt; "{at:06} {letters} {what}")
+// What a command is, behind its place and its letters.
+fn head(rt: &HostRuntime, what: &str) -> io::Result<()> {
+    println!(rt; "{what}")
 }
 
 fn show_drawing(rt: &HostRuntime, ends: Ends<'_>) -> io::Result<()> {
@@ -91,66 +91,80 @@ fn show_drawing(rt: &HostRuntime, ends: Ends<'_>) -> io::Result<()> {
     show_point(rt, ends.to)
 }
 
-pub(crate) fn show_command(rt: &HostRuntime, at: usize, command: Command<'_>) -> io::Result<()> {
+fn show_label_command(rt: &HostRuntime, command: LabelCommand<'_>) -> io::Result<()> {
     match command {
-        Command::SetSize(s) => {
-            head(rt, at, Letters::D, "sizes")?;
+        LabelCommand::SetSize(s) => {
+            head(rt, "sizes")?;
             show(rt, "pitch", s.pitch)?;
             show(rt, "width", s.width)?;
             show(rt, "length", s.length)
         }
-        Command::Clear => head(rt, at, Letters::C, "clear"),
-        Command::FormatText(f) => {
-            head(rt, at, Letters::Pc, "text format")?;
+        LabelCommand::Clear => head(rt, "clear"),
+        LabelCommand::FormatText(f) => {
+            head(rt, "text format")?;
             show_text_format(rt, f)
         }
-        Command::FormatBar(f) => {
-            head(rt, at, Letters::Xb, "bar format")?;
+        LabelCommand::FormatBar(f) => {
+            head(rt, "bar format")?;
             show_bar_format(rt, f)
         }
-        Command::DrawLine(l) => {
-            head(rt, at, Letters::Lc, "line or rectangle")?;
+        LabelCommand::DrawLine(l) => {
+            head(rt, "line or rectangle")?;
             show_drawing(rt, l.ends)?;
             show(rt, "shape", l.shape.kind)?;
             show(rt, "dots", l.shape.dots)
         }
-        Command::MarkArea(a) => {
-            head(rt, at, Letters::Xr, "clear or invert an area")?;
+        LabelCommand::MarkArea(a) => {
+            head(rt, "clear or invert an area")?;
             show_drawing(rt, a.ends)?;
             show(rt, "action", a.action)
         }
-        Command::SetLinks(p) => {
-            head(rt, at, Letters::RcLinks, "link strings")?;
+        LabelCommand::SetLinks(p) => {
+            head(rt, "link strings")?;
             show(rt, "strings", p)
         }
-        Command::SetText(t) => {
-            head(rt, at, Letters::Rc, "text")?;
+        LabelCommand::SetText(t) => {
+            head(rt, "text")?;
             show(rt, "field", t.field)?;
             show(rt, "text", t.text)
         }
-        Command::SetBar(t) => {
-            head(rt, at, Letters::Rb, "bar text")?;
+        LabelCommand::SetBar(t) => {
+            head(rt, "bar text")?;
             show(rt, "field", t.field)?;
             show(rt, "text", t.text)
         }
-        Command::PrintIssue(i) => {
-            head(rt, at, Letters::Xs, "issue")?;
+    }
+}
+
+fn show_station_command(rt: &HostRuntime, command: StationCommand<'_>) -> io::Result<()> {
+    match command {
+        StationCommand::PrintIssue(i) => {
+            head(rt, "issue")?;
             show_issue(rt, i)
         }
-        Command::BeginSaving(f) => {
-            head(rt, at, Letters::Xo, "begin saving")?;
+        StationCommand::BeginSaving(f) => {
+            head(rt, "begin saving")?;
             show(rt, "form", f.form)?;
             show(rt, "response", f.response)
         }
-        Command::EndSaving => head(rt, at, Letters::Xp, "end saving"),
-        Command::RecallForm(r) => {
-            head(rt, at, Letters::Xq, "recall")?;
+        StationCommand::EndSaving => head(rt, "end saving"),
+        StationCommand::RecallForm(r) => {
+            head(rt, "recall")?;
             show(rt, "form", r.form.form)?;
             show(rt, "response", r.form.response)?;
             show(rt, "target", r.target)
         }
-        Command::EmptyStore => head(rt, at, Letters::J1, "empty the store"),
-        Command::WriteStatus => head(rt, at, Letters::Ws, "status"),
-        Command::Reset => head(rt, at, Letters::Wr, "reset"),
+        StationCommand::EmptyStore => head(rt, "empty the store"),
+        StationCommand::WriteStatus => head(rt, "status"),
+        StationCommand::Reset => head(rt, "reset"),
+    }
+}
+
+pub(crate) fn show_command(rt: &HostRuntime, at: usize, command: Command<'_>) -> io::Result<()> {
+    let letters = command.letters();
+    print!(rt; "{at:06} {letters} ")?;
+    match command {
+        Command::Label(command) => show_label_command(rt, command),
+        Command::Station(command) => show_station_command(rt, command),
     }
 }

@@ -7,9 +7,9 @@
 --   one_of, one_letter   the rules that admit some numbers, and some letters
 use Rattle.std.specs.Prelude.{ℕ, ◌-◌, Bool, true, false, cond, List, [], ◌∷◌, ◌++◌, map, Ok, Result, ◌==◌, slice_index}
 use Rattle.jobparts.specs.Items.{Admits, byte_at, end_at, part_at, number_at, chosen_at, text_at, list_part_at, lettered_at, signed_at, source_at}
-use Rattle.jobparts.specs.Slots.{Slot, Got, bytes_of, then}
+use Rattle.jobparts.specs.Parts.{PartSeen, Got, bytes_of, then}
 use Rattle.jobparts.specs.Values.{number_of}
-use Rattle.jobparts.specs.declared.part.Kind.{Kind}
+use Rattle.jobparts.specs.declared.part.ByteKind.{ByteKind}
 use Rattle.jobparts.specs.declared.part.List.TheVariants.{Strings}
 use Rattle.jobparts.specs.declared.part.Wrong.{Wrong}
 
@@ -17,11 +17,11 @@ pub data Item : Type 0 where
   -- a fixed byte
   fixed : ℕ → Item
   -- so many bytes of a kind
-  part : Kind → ℕ → Item
+  part : ByteKind → ℕ → Item
   -- so many digits, whose number lies between two limits
   number : ℕ → ℕ → ℕ → Item
   -- so many bytes of a kind, with a rule of their own
-  chosen : Kind → ℕ → Admits → Item
+  chosen : ByteKind → ℕ → Admits → Item
   -- an option: a comma, a letter, and so many digits up to a highest number; whether it is the last option
   lettered : ℕ → ℕ → ℕ → Bool → Item
   -- an option: a comma, a sign and so many digits; whether it is the last option
@@ -44,16 +44,17 @@ item_at text earlier body at = text_at body at
 item_at (strings most) earlier body at = list_part_at Strings (most - 1) body at
 item_at (source most) earlier body at = source_at (most - 1) body at
 
-abbrev pub group_at : List Item → List Slot → List ℕ → ℕ → Result Got Wrong
+abbrev pub group_at : List Item → List PartSeen → List ℕ → ℕ → Result Got Wrong
 group_at [] seen body at = Ok (seen, at)
 group_at (item ∷ items) seen body at =
     then (item_at item (map bytes_of seen) body at) (λ o. group_at items (seen ++ o.0) body o.1)
 
-abbrev pub groups_at : List (List Item) → List Slot → List ℕ → ℕ → Result Got Wrong
+abbrev pub groups_at : List (List Item) → List PartSeen → List ℕ → ℕ → Result Got Wrong
 groups_at [] seen body at = Ok (seen, at)
-groups_at (group ∷ groups) seen body at = then (group_at group [] body at) (λ o. groups_at groups (seen ++ o.0) body o.1)
+groups_at (group ∷ groups) seen body at =
+    then (group_at group [] body at) (λ o. groups_at groups (seen ++ o.0) body o.1)
 
-abbrev pub row_at : List (List Item) → List Slot → List ℕ → ℕ → Result (List Slot) Wrong
+abbrev pub row_at : List (List Item) → List PartSeen → List ℕ → ℕ → Result (List PartSeen) Wrong
 row_at [] seen body at = then (end_at body at) (λ _. Ok seen)
 row_at (group ∷ groups) seen body at = then (group_at group [] body at) (λ o. row_at groups (seen ++ o.0) body o.1)
 

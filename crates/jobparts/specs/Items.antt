@@ -3,10 +3,10 @@ use Rattle.std.specs.Prelude.{ℕ, zero, suc, ◌+◌, ◌-◌, Bool, cond, List
 use Rattle.limits.specs.Bytes.{between}
 use Rattle.limits.specs.Limits.{longest_text, last_link}
 use Rattle.jobparts.specs.Kinds.{run, stands, is_sign}
-use Rattle.jobparts.specs.Slots.{Slot, missing, given, linked, Got, bytes_of, then, wrong_byte, not_admitted}
+use Rattle.jobparts.specs.Parts.{PartSeen, missing, given, linked, Got, bytes_of, then, wrong_byte, not_admitted}
 use Rattle.jobparts.specs.Values.{number_of}
-use Rattle.jobparts.specs.declared.part.Kind.{Kind}
-use Rattle.jobparts.specs.declared.part.Kind.TheVariants.{Digit, Text}
+use Rattle.jobparts.specs.declared.part.ByteKind.{ByteKind}
+use Rattle.jobparts.specs.declared.part.ByteKind.TheVariants.{Digit, Text}
 use Rattle.jobparts.specs.declared.part.List.{List as Listed}
 use Rattle.jobparts.specs.declared.part.List.TheVariants.{Strings, Numbers}
 use Rattle.jobparts.specs.declared.part.Wrong.{Wrong}
@@ -23,7 +23,7 @@ abbrev pub admitted_at : Bool → ℕ → Result (Unit {0}) Wrong
 admitted_at admitted at = cond admitted (Ok tt) (Err (not_admitted at))
 
 -- so many bytes of a kind: the first that is of another kind is wrong
-unfoldable pub part_at : Kind → ℕ → List ℕ → ℕ → Result Got Wrong
+unfoldable pub part_at : ByteKind → ℕ → List ℕ → ℕ → Result Got Wrong
 part_at k n body at =
     cond (nat_le n (run k (drop at body)))
     (Ok (given at (take n (drop at body)) ∷ [], at + n))
@@ -41,7 +41,7 @@ number_at n low high body at =
 abbrev pub Admits : Type 0
 Admits = List (List ℕ) → List ℕ → List ℕ → Bool
 
-abbrev pub chosen_at : Kind → ℕ → Admits → List (List ℕ) → List ℕ → ℕ → Result Got Wrong
+abbrev pub chosen_at : ByteKind → ℕ → Admits → List (List ℕ) → List ℕ → ℕ → Result Got Wrong
 chosen_at k n admits earlier body at =
     then (part_at k n body at) (λ o. cond (admits earlier (own o) (drop o.1 body)) (Ok o) (Err (not_admitted at)))
 
@@ -80,10 +80,12 @@ element_at Numbers = link_at
 abbrev pub list_at : Listed → ℕ → List ℕ → ℕ → Result ℕ Wrong
 list_at list zero body at = element_at list body at
 list_at list (suc further) body at =
-    then (element_at list body at) (λ next. cond (stands (nat_eq 44) body next) (list_at list further body (next + 1)) (Ok next))
+    then (element_at list body at)
+    (λ next. cond (stands (nat_eq 44) body next) (list_at list further body (next + 1)) (Ok next))
 
 unfoldable pub list_part_at : Listed → ℕ → List ℕ → ℕ → Result Got Wrong
-list_part_at list further body at = then (list_at list further body at) (λ next. Ok (given at (span body at next) ∷ [], next))
+list_part_at list further body at =
+    then (list_at list further body at) (λ next. Ok (given at (span body at next) ∷ [], next))
 
 -- an option that does not follow its comma is left out, unless no other may follow that comma
 abbrev pub left_out : Bool → ℕ → ℕ → Result Got Wrong
@@ -100,11 +102,13 @@ lettered_at letter n high last body at =
 unfoldable pub signed_at : ℕ → Bool → List ℕ → ℕ → Result Got Wrong
 signed_at n last body at =
     cond (stands (nat_eq 44) body at)
-    (cond (stands is_sign body (at + 1)) (then (part_at Digit n body (at + 1 + 1)) (λ o. Ok (given (at + 1) (span body (at + 1) o.1) ∷ [], o.1))) (left_out last at (at + 1)))
+    (cond (stands is_sign body (at + 1))
+    (then (part_at Digit n body (at + 1 + 1)) (λ o. Ok (given (at + 1) (span body (at + 1) o.1) ∷ [], o.1)))
+    (left_out last at (at + 1)))
     (Ok (missing ∷ [], at))
 
 -- nothing, `=` and a text, or `;` and link numbers
-abbrev pub as_links : Slot → Slot
+abbrev pub as_links : PartSeen → PartSeen
 as_links missing = missing
 as_links (given p bs) = linked p bs
 as_links (linked p bs) = linked p bs

@@ -2,5 +2,5 @@ pub mod Cursors
 pub mod Grammar
 pub mod Items
 pub mod Kinds
-pub mod Slots
+pub mod Parts
 pub mod Values

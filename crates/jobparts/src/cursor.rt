@@ -3,16 +3,16 @@ ghost use Rattle.std.specs.Prelude.{◌≡◌, ◌-◌, ◌≤◌, take, drop, l
 ghost use Rattle.jobparts.specs.Items.{byte_at, part_at, number_at, end_at, text_stop, text_at, stopped_at, string_at, element_at, list_at, list_part_at, left_out, lettered_at, signed_at, source_at};
 ghost use Rattle.jobparts.specs.Kinds.{stands};
 ghost use Rattle.limits.specs.Limits.{most_links};
-ghost use Rattle.jobparts.specs.Slots.{slot_of, given, part_slots, option_slots, source_slots};
+ghost use Rattle.jobparts.specs.Parts.{seen_part, given, part_alone, option_alone, source_alone};
 
 use crate::bytes::{first, rest_at, run_of, sign_at, stands_at};
-use crate::part::{Kind, List, Part, Source, Wrong};
+use crate::part::{ByteKind, List, Part, Source, Wrong};
 use limits::sizes::{LAST_LINK, LONGEST_TEXT, MOST_LINKS};
 
-// A field joins at most so many link strings behind its first.
+/// A field joins at most so many link strings behind its first.
 pub const FURTHER_LINKS: usize = MOST_LINKS - 1;
 
-// Each method takes what stands at the place and moves behind it; after an error the place tells nothing.
+/// Each method takes what stands at the place and moves behind it; after an error the place tells nothing.
 #[derive(Clone, Copy)]
 pub struct Cursor<'a> {
     pub body: &'a [u8],
@@ -44,7 +44,8 @@ impl<'a> Cursor<'a> {
 
     // The part from a place to the cursor.
     fn since(&self, from: usize) -> Part<'a>
-        ensures { slot_of result ≡ given from (take (self.now.at - from) (drop from self.now.body.now)) }
+        ensures { let bytes = take (self.now.at - from) (drop from self.now.body.now) in
+            seen_part result ≡ given from bytes }
     {
         Part {
             place: from,
@@ -52,7 +53,7 @@ impl<'a> Cursor<'a> {
         }
     }
 
-    // A fixed byte.
+    /// A fixed byte.
     #[tactic(auto, unfolding(crate::specs::Items::byte_at))]
     pub fn byte(&mut self, b: u8) -> Result<(), Wrong>
         ensures { Moves result self.old self.new (byte_at b) }
@@ -64,7 +65,7 @@ impl<'a> Cursor<'a> {
         }
     }
 
-    // The body has ended.
+    /// The body has ended.
     #[tactic(auto, unfolding(crate::specs::Items::end_at))]
     pub fn end(&self) -> Result<(), Wrong>
         ensures { result ≡ end_at self.now.body.now self.now.at }
@@ -76,10 +77,10 @@ impl<'a> Cursor<'a> {
         }
     }
 
-    // So many bytes of a kind.
+    /// So many bytes of a kind.
     #[tactic(auto, unfolding(crate::specs::Items::part_at))]
-    pub fn part(&mut self, kind: Kind, count: usize) -> Result<Part<'a>, Wrong>
-        ensures { Takes part_slots result self.old self.new (part_at kind count) }
+    pub fn part(&mut self, kind: ByteKind, count: usize) -> Result<Part<'a>, Wrong>
+        ensures { Takes part_alone result self.old self.new (part_at kind count) }
     {
         let place = self.at;
         let rest = rest_at(self.body, place);
@@ -94,12 +95,12 @@ impl<'a> Cursor<'a> {
         })
     }
 
-    // So many digits, whose number lies between two limits.
+    /// So many digits, whose number lies between two limits.
     #[tactic(auto, unfolding(crate::specs::Items::number_at, crate::specs::Items::part_at))]
     pub fn number(&mut self, count: usize, low: u64, high: u64) -> Result<Part<'a>, Wrong>
-        ensures { Takes part_slots result self.old self.new (number_at count low high) }
+        ensures { Takes part_alone result self.old self.new (number_at count low high) }
     {
-        let digits = self.part(Kind::Digit, count)?;
+        let digits = self.part(ByteKind::Digit, count)?;
         let n = digits.number();
         digits.admitted((low..=high).contains(&n))
     }
@@ -111,13 +112,13 @@ impl<'a> Cursor<'a> {
         ensures body { self.new.body ≡ self.old.body }
     {
         let rest = rest_at(self.body, self.at);
-        self.at += run_of(rest, Kind::Text, rest.len());
+        self.at += run_of(rest, ByteKind::Text, rest.len());
     }
 
-    // A text, which runs to the body's end.
+    /// A text, which runs to the body's end.
     #[tactic(auto, unfolding(crate::specs::Items::text_at))]
     pub fn text(&mut self) -> Result<Part<'a>, Wrong>
-        ensures { Takes part_slots result self.old self.new text_at }
+        ensures { Takes part_alone result self.old self.new text_at }
     {
         let from = self.at;
         self.skip_text();
@@ -173,10 +174,10 @@ impl<'a> Cursor<'a> {
         Ok(())
     }
 
-    // A list to its end, as one part.
+    /// A list to its end, as one part.
     #[tactic(auto, unfolding(crate::specs::Items::list_part_at))]
     pub fn list_part(&mut self, list: List, further: usize) -> Result<Part<'a>, Wrong>
-        ensures { Takes part_slots result self.old self.new (list_part_at list further) }
+        ensures { Takes part_alone result self.old self.new (list_part_at list further) }
     {
         let from = self.at;
         self.elements(list, further)?;
@@ -186,7 +187,8 @@ impl<'a> Cursor<'a> {
     // An option that does not follow its comma is left out, unless no other may follow that comma.
     fn left_out(&self, last: bool) -> Result<Option<Part<'a>>, Wrong>
         requires room { self.now.at < length self.now.body.now }
-        ensures { got_to option_slots result self.now.at ≡ left_out last self.now.at (self.now.at + 1) }
+        ensures { let at = self.now.at in
+            got_to option_alone result at ≡ left_out last at (at + 1) }
     {
         if last {
             Err(Wrong::byte(self.at + 1))
@@ -195,7 +197,7 @@ impl<'a> Cursor<'a> {
         }
     }
 
-    // A comma, a letter and a number, which alone is the part.
+    /// A comma, a letter and a number, which alone is the part.
     #[tactic(auto, unfolding(crate::specs::Items::lettered_at))]
     pub fn lettered(
         &mut self,
@@ -204,7 +206,7 @@ impl<'a> Cursor<'a> {
         high: u64,
         last: bool,
     ) -> Result<Option<Part<'a>>, Wrong>
-        ensures { Takes option_slots result self.old self.new (lettered_at letter count high last) }
+        ensures { Takes option_alone result self.old self.new (lettered_at letter count high last) }
     {
         if !self.stands(b',') {
             return Ok(None);
@@ -216,10 +218,10 @@ impl<'a> Cursor<'a> {
         Ok(Some(self.number(count, 0, high)?))
     }
 
-    // A comma and a signed number.
+    /// A comma and a signed number.
     #[tactic(auto, unfolding(crate::specs::Items::signed_at))]
     pub fn signed(&mut self, count: usize, last: bool) -> Result<Option<Part<'a>>, Wrong>
-        ensures { Takes option_slots result self.old self.new (signed_at count last) }
+        ensures { Takes option_alone result self.old self.new (signed_at count last) }
     {
         if !self.stands(b',') {
             return Ok(None);
@@ -229,14 +231,14 @@ impl<'a> Cursor<'a> {
             return self.left_out(last);
         }
         self.at += 2;
-        self.part(Kind::Digit, count)?;
+        self.part(ByteKind::Digit, count)?;
         Ok(Some(self.since(from)))
     }
 
-    // Nothing, `=` and a text, or `;` and link numbers.
+    /// Nothing, `=` and a text, or `;` and link numbers.
     #[tactic(auto, unfolding(crate::specs::Items::source_at))]
     pub fn source(&mut self) -> Result<Source<'a>, Wrong>
-        ensures { Takes source_slots result self.old self.new (source_at (most_links - 1)) }
+        ensures { Takes source_alone result self.old self.new (source_at (most_links - 1)) }
     {
         if self.passes(b'=') {
             Ok(Source::Text(self.text()?))

@@ -3,7 +3,7 @@ ghost use Rattle.std.specs.Prelude.{◌≡◌, cond, Ok, Err};
 
 use crate::values::number_of;
 
-// The job's own bytes at a place.
+/// The job's own bytes at a place.
 #[derive(Clone, Copy)]
 pub struct Part<'a> {
     pub place: usize,
@@ -11,17 +11,17 @@ pub struct Part<'a> {
 }
 
 impl<'a> Part<'a> {
-    ghost use Rattle.jobparts.specs.Slots.{not_admitted};
+    ghost use Rattle.jobparts.specs.Parts.{not_admitted};
     ghost use Rattle.jobparts.specs.Values.{number_of};
 
-    // The number that its digits write.
+    /// The number that its digits write.
     pub fn number(self) -> u64
         ensures { result ≡ number_of self.entry.bytes.now }
     {
         number_of(self.bytes)
     }
 
-    // The part itself, or that it is not admitted.
+    /// The part itself, or that it is not admitted.
     pub fn admitted(self, admitted: bool) -> Result<Part<'a>, Wrong>
         ensures { result ≡ cond admitted (Ok self.entry) (Err (not_admitted self.entry.place)) }
     {
@@ -36,7 +36,7 @@ impl<'a> Part<'a> {
     }
 }
 
-// Why a command is not read. docs/FAULTS.md says when each comes.
+/// Why a command is not read. docs/FAULTS.md says when each comes.
 #[derive(Clone, Copy, PartialEq, Eq, Debug)]
 pub enum ReadRefusal {
     OutOfBounds,
@@ -48,7 +48,7 @@ pub enum ReadRefusal {
     NotAdmitted,
 }
 
-// What is wrong in a body, and where.
+/// What is wrong in a body, and where.
 #[derive(Clone, Copy, PartialEq, Eq, Debug)]
 pub struct Wrong {
     pub refusal: ReadRefusal,
@@ -56,7 +56,7 @@ pub struct Wrong {
 }
 
 impl Wrong {
-    ghost use Rattle.jobparts.specs.Slots.{wrong_byte};
+    ghost use Rattle.jobparts.specs.Parts.{wrong_byte};
 
     // A byte that does not fit, or is missing.
     pub(crate) fn byte(place: usize) -> Wrong
@@ -69,16 +69,16 @@ impl Wrong {
     }
 }
 
-// The kinds of bytes that parts are made of.
+/// The kinds of bytes that parts are made of.
 #[derive(Clone, Copy, PartialEq, Eq, Debug)]
-pub enum Kind {
+pub enum ByteKind {
     Digit,
     Capital,
     CapitalOrDigit,
     Text,
 }
 
-// Where a field's text comes from: not said, given, or joined from link strings.
+/// Where a field's text comes from: not said, given, or joined from link strings.
 // Kept so: the three are one choice of a format; an Option round two of them tells it in two steps.
 #[derive(Clone, Copy)]
 pub enum Source<'a> {
@@ -87,7 +87,7 @@ pub enum Source<'a> {
     Links(Part<'a>),
 }
 
-// What stands in a list, parted by commas: link strings, or the numbers of link strings.
+/// What stands in a list, parted by commas: link strings, or the numbers of link strings.
 #[derive(Clone, Copy, PartialEq, Eq, Debug)]
 pub enum List {
     Strings,

@@ -4,7 +4,7 @@ ghost use Rattle.jobparts.specs.Values.{number_of};
 
 use crate::bytes::first;
 
-// The number that digits write; a numeric part has ten at most.
+/// The number that digits write; a numeric part has ten at most.
 // Kept so: a fold has to add so that it can not fail, and would hide that ten digits always fit.
 #[tactic(auto, unfolding(crate::specs::Values::number_of))]
 pub fn number_of(bytes: &[u8]) -> u64

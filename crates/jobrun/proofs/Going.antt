@@ -5,7 +5,7 @@ use Rattle.faults.specs.declared.Refusal.TheVariants.{ShortBuffer}
 use Rattle.jobparts.specs.declared.part.ReadRefusal.TheVariants.{OutOfBounds, AtEnd, NoEscape, NoEnding, UnknownLetters, WrongByte, NotAdmitted}
 use Rattle.jobparts.specs.declared.part.ReadRefusal.{ReadRefusal}
 use Rattle.job.proofs.Onward.{ended, onward}
-use Rattle.jobgroups.specs.Commands.{Plain}
+use Rattle.jobgroups.specs.Commands.{CommandSeen}
 use Rattle.job.specs.Reading.{fault_of, answer_of, next_of, fault, read_at as reader_at}
 use Rattle.job.specs.declared.fault.ReadFault.{ReadFault}
 use Rattle.station.specs.Reads.{read_at, next_at, out_of_bounds}
@@ -13,7 +13,7 @@ use Rattle.station.specs.Steps.{commanded, on_read, concluded, short_buffers, fa
 use Rattle.station.specs.Views.{View}
 use Rattle.station.specs.declared.blame.Blame.{Blame}
 use Rattle.ledger.proofs.Basics.{never, not_ok, ok_inj}
-use Rattle.jobrun.specs.Turns.{ends}
+use Rattle.jobrun.specs.Stages.{ends}
 
 pub record Onward (job : List ℕ) (at next : ℕ) : Type 0 where
   pub within : at ≤ length job
@@ -23,11 +23,11 @@ pub err_inj : {A E : Type 0} {x y : E} → ◌≡◌ {A = Result A E} (Err x) (E
 err_inj e = cc
 
 -- the reader ends a job
-abbrev over : Result (Plain × ℕ) ReadFault → Bool
+abbrev over : Result (CommandSeen × ℕ) ReadFault → Bool
 over (Ok x) = false
 over (Err e) = ends (fault_of e)
 
-over_is : (r : Result (Plain × ℕ) ReadFault) → over r ≡ ended (answer_of r)
+over_is : (r : Result (CommandSeen × ℕ) ReadFault) → over r ≡ ended (answer_of r)
 over_is (Ok x) = refl
 over_is (Err e) = go e.refusal
   where
@@ -49,9 +49,12 @@ module _ (job : List ℕ) (at : ℕ) where
   module _ (v : View) (answer work : ℕ) where
     -- an accepted command
     pub accepted_on : (u : View) (next : ℕ) → commanded v job at answer work ≡ Ok (u, next) → Onward job at next
-    accepted_on u next e = go (reader_at job at) refl (reading_on) (bounds (out_of_bounds job at) (short_buffers answer work) e)
+    accepted_on u next e =
+        go (reader_at job at) refl (reading_on) (bounds (out_of_bounds job at) (short_buffers answer work) e)
       where
-        bounds : (a b : Bool) → cond a (on_read v job at (read_at job at)) (cond b (Err (fault_at ShortBuffer 0 at at)) (on_read v job at (read_at job at))) ≡ Ok (u, next)
+        bounds : (a b : Bool) →
+            cond a (on_read v job at (read_at job at))
+            (cond b (Err (fault_at ShortBuffer 0 at at)) (on_read v job at (read_at job at))) ≡ Ok (u, next)
             → on_read v job at (read_at job at) ≡ Ok (u, next)
         bounds true b e = e
         bounds false true e = not_ok e
@@ -61,7 +64,9 @@ module _ (job : List ℕ) (at : ℕ) where
         told (Ok y) k e = ap (λ (p : View × ℕ). p.1) (ok_inj e)
         told (Err b) k e = not_ok e
 
-        go : (r : Result (Plain × ℕ) ReadFault) → reader_at job at ≡ r → (over r ≡ false → Onward job at (next_of r)) → on_read v job at (answer_of r) ≡ Ok (u, next) → Onward job at next
+        go : (r : Result (CommandSeen × ℕ) ReadFault) → reader_at job at ≡ r →
+            (over r ≡ false → Onward job at (next_of r)) → on_read v job at (answer_of r) ≡ Ok (u, next) →
+            Onward job at next
         go (Ok x) q g e = subst (Onward job at) (sym (ap next_of q) ∙ told _ (next_at job at) e) (g refl)
         go (Err x) q g e = not_ok e
 
@@ -73,14 +78,20 @@ module _ (job : List ℕ) (at : ℕ) where
         told (Ok y) k e = not_ok (sym e)
         told (Err b) k e = ap (λ (x : Fault). x.next) (err_inj e)
 
-        go : (r : Result (Plain × ℕ) ReadFault) → reader_at job at ≡ r → (over r ≡ false → Onward job at (next_of r)) → on_read v job at (answer_of r) ≡ Err f → Onward job at f.next
+        go : (r : Result (CommandSeen × ℕ) ReadFault) → reader_at job at ≡ r →
+            (over r ≡ false → Onward job at (next_of r)) → on_read v job at (answer_of r) ≡ Err f →
+            Onward job at f.next
         go (Ok x) q g e = subst (Onward job at) (sym (ap next_of q) ∙ told _ (next_at job at) e) (g refl)
-        go (Err x) q g e = subst (Onward job at) (ap (λ (y : Fault). y.next) (err_inj e)) (g (ap ends (err_inj e) ∙ h))
+        go (Err x) q g e = subst (Onward job at) (ap (λ (y : Fault). y.next) (err_inj e))
+            (g (ap ends (err_inj e) ∙ h))
 
         read : on_read v job at (read_at job at) ≡ Err f → Onward job at f.next
         read e = go (reader_at job at) refl (reading_on) e
 
-        bounds : (a b : Bool) → cond a (on_read v job at (read_at job at)) (cond b (Err (fault_at ShortBuffer 0 at at)) (on_read v job at (read_at job at))) ≡ Err f → Onward job at f.next
+        bounds : (a b : Bool) →
+            cond a (on_read v job at (read_at job at))
+            (cond b (Err (fault_at ShortBuffer 0 at at)) (on_read v job at (read_at job at))) ≡ Err f →
+            Onward job at f.next
         bounds true b e = read e
         bounds false true e = never (sym (ap ends (err_inj e) ∙ h))
         bounds false false e = read e

@@ -1,4 +1,4 @@
-pub mod Turns
+pub mod Stages
 pub mod Jobs
 pub mod Calls
 pub mod Hearing

@@ -2,6 +2,6 @@
 #![tactic(auto)]
 
 pub mod listener;
-pub mod stepping;
-pub mod turn;
+pub mod stage;
+pub mod staging;
 pub mod working;

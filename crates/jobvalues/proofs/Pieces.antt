@@ -6,14 +6,16 @@ use Rattle.std.proofs.lemmas.List.FromFn.{length-enumerate_from, get_or-enumerat
 use Rattle.std.proofs.lemmas.List.{take_all, take_more, length-take, get_or-take, map-set, set-append_right}
 use Rattle.texts.specs.Contents.{contents}
 use Rattle.texts.specs.declared.text.Text.{Text}
-use Rattle.jobvalues.specs.Meaning.{small, parted, with_link, with_links, strings_of, text_of}
+use Rattle.jobvalues.specs.Meaning.{two_digit_number, parted, with_link, with_links, strings_of, text_of}
 
-pub with_links_push : (ns : List ℕ) (bs : List (List ℕ)) (b : List ℕ) → with_links ns (bs ++ b ∷ []) ≡ with_link (with_links ns bs) (small b)
+pub with_links_push : (ns : List ℕ) (bs : List (List ℕ)) (b : List ℕ)
+    → with_links ns (bs ++ b ∷ []) ≡ with_link (with_links ns bs) (two_digit_number b)
 with_links_push ns [] b = refl
-with_links_push ns (x ∷ bs) b = with_links_push (with_link ns (small x)) bs b
+with_links_push ns (x ∷ bs) b = with_links_push (with_link ns (two_digit_number x)) bs b
 
 -- eight empty strings
-pub no_strings : (bs empty : List ℕ) → empty ≡ [] → replicate 8 empty ≡ map text_of (take 0 (parted bs) ++ replicate 8 [])
+pub no_strings : (bs empty : List ℕ) → empty ≡ []
+    → replicate 8 empty ≡ map text_of (take 0 (parted bs) ++ replicate 8 [])
 unfolding text_of
 no_strings bs empty h = rw h
 
@@ -55,8 +57,10 @@ one_more n xs x small lt at =
 
 -- one string more
 pub string_more :
-    (ts : List Text) (t : Text) (bs x : List ℕ) (n m k : ℕ) → map contents ts ≡ map text_of (take n (parted bs) ++ replicate (8 - n) [])
-    → contents t ≡ text_of x → Turn bs n k x → m ≡ n + 1 → map contents (set ts k t) ≡ map text_of (take m (parted bs) ++ replicate (8 - m) [])
+    (ts : List Text) (t : Text) (bs x : List ℕ) (n m k : ℕ)
+    → map contents ts ≡ map text_of (take n (parted bs) ++ replicate (8 - n) [])
+    → contents t ≡ text_of x → Turn bs n k x → m ≡ n + 1
+    → map contents (set ts k t) ≡ map text_of (take m (parted bs) ++ replicate (8 - m) [])
 string_more ts t bs x n m k so_far reads turn next =
     map-set contents ts k t
     ∙ ap₂ (λ ys v. set ys k v) so_far reads
@@ -65,7 +69,8 @@ string_more ts t bs x n m k so_far reads turn next =
     ∙ ap (map text_of) (one_more n (parted bs) x turn.few turn.there turn.string)
     ∙ ap (λ i. map text_of (take i (parted bs) ++ replicate (8 - i) [])) (sym next)
 
-pub strings_of_split : (bs : List ℕ) (n : ℕ) → n ≡ length (take 8 (parted bs)) → map text_of (take n (parted bs) ++ replicate (8 - n) []) ≡ strings_of bs
+pub strings_of_split : (bs : List ℕ) (n : ℕ) → n ≡ length (take 8 (parted bs))
+    → map text_of (take n (parted bs) ++ replicate (8 - n) []) ≡ strings_of bs
 unfolding strings_of
 strings_of_split bs n e =
     let count = length-take 8 (parted bs) in

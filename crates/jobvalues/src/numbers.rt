@@ -1,7 +1,7 @@
 // The numbers that parts and options write. A reader lets no part through that has no meaning; here all bytes have one.
 ghost use Rattle.std.specs.Prelude.{◌≡◌, ◌≤◌};
-ghost use Rattle.jobparts.specs.Slots.{option_slot};
-ghost use Rattle.jobvalues.specs.Meaning.{up_to, figure, small, signed, step_of, kept_of};
+ghost use Rattle.jobparts.specs.Parts.{seen_option};
+ghost use Rattle.jobvalues.specs.Meaning.{up_to, four_digit_number, two_digit_number, signed, step_of, kept_of};
 
 use jobparts::bytes::{rest_at, stands_at};
 use jobparts::part::Part;
@@ -17,16 +17,16 @@ fn up_to(bytes: &[u8], high: u64) -> u64
     number_of(bytes).min(high)
 }
 
-// A number of up to four digits: a size or a place in tenths of a millimetre, dots, or labels.
-pub fn figure(bytes: &[u8]) -> u16
-    ensures { result ≡ figure bytes.now }
+/// A number of up to four digits: a size or a place in tenths of a millimetre, dots, or labels.
+pub fn four_digit_number(bytes: &[u8]) -> u16
+    ensures { result ≡ four_digit_number bytes.now }
 {
     up_to(bytes, 9999) as u16
 }
 
-// A number of up to two digits.
-pub fn small(bytes: &[u8]) -> u8
-    ensures { result ≡ small bytes.now }
+/// A number of up to two digits.
+pub fn two_digit_number(bytes: &[u8]) -> u8
+    ensures { result ≡ two_digit_number bytes.now }
 {
     up_to(bytes, 99) as u8
 }
@@ -39,16 +39,16 @@ fn signed(bytes: &[u8]) -> i64
     if stands_at(bytes, 0, b'-') { -n } else { n }
 }
 
-// A step that is not given is 0.
+/// A step that is not given is 0.
 pub fn step_of(step: Option<Part<'_>>) -> i64
-    ensures { result ≡ step_of (option_slot step.entry) }
+    ensures { result ≡ step_of (seen_option step.entry) }
 {
     step.map_or(0, |part| signed(part.bytes))
 }
 
-// The places that zero suppression keeps.
-pub fn kept_of(zeros: Option<Part<'_>>) -> Option<u8>
-    ensures { result ≡ kept_of (option_slot zeros.entry) }
+/// The places that zero suppression keeps.
+pub fn kept_of(kept: Option<Part<'_>>) -> Option<u8>
+    ensures { result ≡ kept_of (seen_option kept.entry) }
 {
-    zeros.map(|part| small(part.bytes))
+    kept.map(|part| two_digit_number(part.bytes))
 }

@@ -1,21 +1,20 @@
 // The drawings that commands send.
 ghost use Rattle.std.specs.Prelude.{◌≡◌};
-ghost use Rattle.jobgroups.specs.Commands.{point_slots, plain_of};
-ghost use Rattle.jobgroups.specs.declared.command.Command.TheVariants.{DrawLine, MarkArea};
+ghost use Rattle.jobgroups.specs.Commands.{point_parts, line_parts, area_parts};
 ghost use Rattle.label.specs.Actions.{corner, line, line_drawing, area_drawing};
 
 use jobgroups::command::{Area, Line};
 use jobparts::bytes::stands_at;
-use jobvalues::numbers::figure;
+use jobvalues::numbers::four_digit_number;
 use picture::drawing::{Drawing, Point};
 
-// Kept so: a From stands with one of its two types, and both are of lower crates; so for all that this crate reads of a command.
+// Kept so: a From stands with one of its two types, and both are of lower crates.
 fn point_of(sent: &jobgroups::command::Point<'_>) -> Point
-    ensures { result ≡ corner (point_slots sent.now) }
+    ensures { result ≡ corner (point_parts sent.now) }
 {
     Point {
-        x: figure(sent.x.bytes),
-        y: figure(sent.y.bytes),
+        x: four_digit_number(sent.x.bytes),
+        y: four_digit_number(sent.y.bytes),
     }
 }
 
@@ -42,11 +41,11 @@ fn line_between(from: Point, to: Point, thick: u16) -> Drawing
 
 // What an LC draws: 0 is a line, 1 a rectangle.
 pub(crate) fn line_drawing(sent: &Line<'_>) -> Drawing
-    ensures { result ≡ line_drawing (plain_of (DrawLine sent.now)).parts }
+    ensures { result ≡ line_drawing (line_parts sent.now) }
 {
     let corner = point_of(&sent.ends.from);
     let opposite = point_of(&sent.ends.to);
-    let thick = figure(sent.shape.dots.bytes);
+    let thick = four_digit_number(sent.shape.dots.bytes);
     if sent.shape.kind.number() == 0 {
         line_between(corner, opposite, thick)
     } else {
@@ -60,7 +59,7 @@ pub(crate) fn line_drawing(sent: &Line<'_>) -> Drawing
 
 // What an XR draws: A clears its box, B inverts it.
 pub(crate) fn area_drawing(sent: &Area<'_>) -> Drawing
-    ensures { result ≡ area_drawing (plain_of (MarkArea sent.now)).parts }
+    ensures { result ≡ area_drawing (area_parts sent.now) }
 {
     let corner = point_of(&sent.ends.from);
     let opposite = point_of(&sent.ends.to);

@@ -1,17 +1,19 @@
 // What the commands of a job do to a label, told by its line and its picture.
 use faults::Refusal;
 use job::read::read;
+use jobgroups::command::Command;
 use label::label::Label;
 use limits::sizes::PICTURE_BYTES;
 use std::alloc::Global;
 use std::process::Abort;
 use std::test::Fail;
 
-// The command at a place of a job is done; answers the place behind it.
+// The label command at a place of a job is done, and any other passed over; answers the place behind it.
 fn act(label: &mut Label, job: &[u8], at: usize) -> Result<usize, Refusal> {
     let (answer, next) = read(job, at);
-    let command = answer.map_err(Refusal::from)?;
-    label.act(&command)?;
+    if let Command::Label(command) = answer.map_err(Refusal::from)? {
+        label.act(&command)?;
+    }
     Ok(next)
 }
 

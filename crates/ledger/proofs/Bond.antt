@@ -10,8 +10,8 @@ use Rattle.fields.specs.Tables.{Table}
 use Rattle.tagline.specs.Line.{line_of}
 use Rattle.stores.specs.Forms.{Forms, put_answer, stored, emptied}
 use Rattle.stores.specs.declared.answers.StoreFault.{StoreFault}
-use Rattle.printers.specs.Paper.{Paper}
-use Rattle.jobgroups.specs.Commands.{Plain}
+use Rattle.printers.specs.Paper.{Paper, with_tag}
+use Rattle.jobgroups.specs.Commands.{CommandSeen}
 use Rattle.label.specs.Actions.{Action}
 use Rattle.label.specs.Labels.{LabelSeen, new_label, label_refusal, label_after, turned_label}
 use Rattle.label.specs.declared.fault.LabelFault.{LabelFault}
@@ -19,17 +19,18 @@ use Rattle.station.specs.Reads.{read_at}
 use Rattle.station.specs.Requests.{Request, on_label, issue, begin_saving, end_saving, recall, empty_store, tell_status, reset, request_of}
 use Rattle.station.specs.declared.blame.Blame.{Blame}
 use Rattle.station.specs.Recalls.{acted, commands_of, done_all}
-use Rattle.station.specs.Steps.{Call, command, print, reload, Step, whole_at, commanded, answered, answered_in, when_idle, when_saving, when_owing, relabelled, recalled, ordering, owing_all, most_ordered, drafted, refused, filed as filed_by, Printed, PrintedIn, printed, taken as taken_paper, tag_line, Reloaded}
+use Rattle.station.specs.Steps.{Call, command, print, reload, Performed, whole_at, commanded, answered, answered_in, when_idle, when_saving, when_owing, relabelled, recalled, ordering, owing_all, most_ordered, drafted, refused, filed as filed_by, Printed, PrintedIn, printed, tag_line, Reloaded}
 use Rattle.faults.specs.declared.Refusal.TheVariants.{TooManyOrdered, DraftFull}
-use Rattle.station.specs.Views.{Doing, idle, saving, owing, View, made, with_label, with_doing, with_forms as with_stored, with_ordered}
-use Rattle.ledger.specs.Entries.{Entries, table_now, entries_after, entries_after_all}
+use Rattle.station.specs.Views.{ModeSeen, idle, saving, owing, View, made, with_label, with_mode, with_forms as with_stored, with_ordered}
+use Rattle.ledger.specs.FieldAccounts.{FieldAccounts, table_now, accounts_after, accounts_after_all}
 use Rattle.ledger.specs.Ledgers.{Form, given, filed, Ledger, opened, feed, noted, label_noted, issue_noted, end_noted, recall_noted, reset_noted, read_noted, print_noted, actions_of, with_fields, with_forms, with_draft}
 use Rattle.ledger.specs.Laws.{most_owed}
+use Rattle.ledger.specs.Words.{joined}
 use Rattle.ledger.proofs.Readers.{Reader}
 use Rattle.ledger.proofs.Basics.{above_zero, ok_inj, not_ok, ok_of}
 use Rattle.std.proofs.lemmas.Bool.{eqb-true, leb-false, leb-true}
 use Rattle.ledger.proofs.Fields.{act_all, fields_after, fields_after_all, fields_turned, fields_new}
-use Rattle.ledger.proofs.Saved.{Saved, joined, joined_push, read_action, actions_of_lem, issue_few, done_acts}
+use Rattle.ledger.proofs.Saved.{Saved, joined_push, read_action, actions_of_lem, issue_few, done_acts}
 use Rattle.ledger.proofs.Calls.{accepted_read}
 
 -- what the store has under a number, and what the ledger has
@@ -39,9 +40,10 @@ FormTied o (Some (given x)) = o ≡ Some x
 FormTied o (Some (filed ws)) = (o ≡ Some (joined ws)) × All Saved ws × (length (joined ws) ≤ longest_form)
 
 -- what the station is doing; and the number being saved, the draft, the labels owed and the size in the ledger
-abbrev pub Ties : Doing → Option ℕ → List (List ℕ) → ℕ → ℕ → Type 0
+abbrev pub Ties : ModeSeen → Option ℕ → List (List ℕ) → ℕ → ℕ → Type 0
 Ties idle number draft owed size = (number ≡ None) × (owed ≡ 0)
-Ties (saving n d) number draft owed size = (number ≡ Some n) × (owed ≡ 0) × (d ≡ joined draft) × All Saved draft × (length d ≤ longest_form)
+Ties (saving n d) number draft owed size =
+    (number ≡ Some n) × (owed ≡ 0) × (d ≡ joined draft) × All Saved draft × (length d ≤ longest_form)
 Ties (owing left all) number draft owed size = (number ≡ None) × (owed ≡ left) × (size ≡ all) × (0 < left)
 
 pub record Bound (w w' : Wheels) (base : ℕ) (l : Ledger) (v : View) : Type 0 where
@@ -49,7 +51,7 @@ pub record Bound (w w' : Wheels) (base : ℕ) (l : Ledger) (v : View) : Type 0 w
   pub second : v.second ≡ w'
   pub fields : v.label.table ≡ table_now w w' l.fields
   pub forms : (n : ℕ) → FormTied (v.forms.at n) (l.forms n)
-  pub doing : Ties v.doing l.saving l.draft l.owed l.size
+  pub mode : Ties v.mode l.saving l.draft l.owed l.size
   pub ordered : v.ordered ≡ l.ordered
   pub few : l.owed ≤ most_owed
   pub most : l.ordered ≤ most_ordered
@@ -59,13 +61,14 @@ pub record Bound (w w' : Wheels) (base : ℕ) (l : Ledger) (v : View) : Type 0 w
 
 module _ (r : Reader) (w w' : Wheels) (base : ℕ) where
   -- ---- what changes by itself
-  relabel : (l : Ledger) (v : View) (es : Entries) (m : LabelSeen) → Bound w w' base l v → m.table ≡ table_now w w' es → Bound w w' base (with_fields es l) (with_label m v)
+  relabel : (l : Ledger) (v : View) (es : FieldAccounts) (m : LabelSeen) → Bound w w' base l v
+      → m.table ≡ table_now w w' es → Bound w w' base (with_fields es l) (with_label m v)
   relabel l v es m h t = record {
     first = h.first;
     second = h.second;
     fields = t;
     forms = h.forms;
-    doing = h.doing;
+    mode = h.mode;
     ordered = h.ordered;
     few = h.few;
     most = h.most;
@@ -74,13 +77,14 @@ module _ (r : Reader) (w w' : Wheels) (base : ℕ) where
     latest = h.latest;
   }
 
-  redo : (l : Ledger) (v : View) (d : Doing) (number : Option ℕ) (draft : List (List ℕ)) → Bound w w' base l v → Ties d number draft l.owed l.size → Bound w w' base (with_draft number draft l) (with_doing d v)
+  redo : (l : Ledger) (v : View) (d : ModeSeen) (number : Option ℕ) (draft : List (List ℕ)) → Bound w w' base l v
+      → Ties d number draft l.owed l.size → Bound w w' base (with_draft number draft l) (with_mode d v)
   redo l v d number draft h t = record {
     first = h.first;
     second = h.second;
     fields = h.fields;
     forms = h.forms;
-    doing = t;
+    mode = t;
     ordered = h.ordered;
     few = h.few;
     most = h.most;
@@ -89,13 +93,14 @@ module _ (r : Reader) (w w' : Wheels) (base : ℕ) where
     latest = h.latest;
   }
 
-  restore : (l : Ledger) (v : View) (f : Forms) (forms : ℕ → Option Form) → Bound w w' base l v → ((n : ℕ) → FormTied (f.at n) (forms n)) → Bound w w' base (with_forms forms l) (with_stored f v)
+  restore : (l : Ledger) (v : View) (f : Forms) (forms : ℕ → Option Form) → Bound w w' base l v
+      → ((n : ℕ) → FormTied (f.at n) (forms n)) → Bound w w' base (with_forms forms l) (with_stored f v)
   restore l v f forms h t = record {
     first = h.first;
     second = h.second;
     fields = h.fields;
     forms = t;
-    doing = h.doing;
+    mode = h.mode;
     ordered = h.ordered;
     few = h.few;
     most = h.most;
@@ -104,13 +109,14 @@ module _ (r : Reader) (w w' : Wheels) (base : ℕ) where
     latest = h.latest;
   }
 
-  tied_reset : (l : Ledger) (v : View) → Bound w w' base l v → Bound w w' base (reset_noted l) (with_doing idle (with_label new_label v))
+  tied_reset : (l : Ledger) (v : View) → Bound w w' base l v
+      → Bound w w' base (reset_noted l) (with_mode idle (with_label new_label v))
   tied_reset l v h = record {
     first = h.first;
     second = h.second;
     fields = fields_new w w';
     forms = h.forms;
-    doing = (refl, refl);
+    mode = (refl, refl);
     ordered = h.ordered;
     few = omega arith;
     most = h.most;
@@ -121,28 +127,34 @@ module _ (r : Reader) (w w' : Wheels) (base : ℕ) where
 
   -- ---- an idle station
   idle_label : (l : Ledger) (v u : View) (a : Action) (whole : List ℕ) (at : ℕ) → Bound w w' base l v → l.saving ≡ None
-      → relabelled v (acted 0 v.label a at (label_refusal v.label a)) ≡ Ok u → Bound w w' base (label_noted l.saving a whole l) u
-  idle_label l v u a whole at h n e = subst⁻¹ (λ (o : Option ℕ). Bound w w' base (label_noted o a whole l) u) n (go (label_refusal v.label a) e)
+      → relabelled v (acted 0 v.label a at (label_refusal v.label a)) ≡ Ok u
+      → Bound w w' base (label_noted l.saving a whole l) u
+  idle_label l v u a whole at h n e =
+      subst⁻¹ (λ (o : Option ℕ). Bound w w' base (label_noted o a whole l) u) n (go (label_refusal v.label a) e)
     where
-      go : (o : Option LabelFault) → relabelled v (acted 0 v.label a at o) ≡ Ok u → Bound w w' base (with_fields (entries_after l.fields a) l) u
-      go None e = subst (λ (y : View). Bound w w' base (with_fields (entries_after l.fields a) l) y) (ok_inj e)
-          (relabel l v (entries_after l.fields a) (label_after v.label a) h (fields_after w w' v.label l.fields a h.fields))
+      go : (o : Option LabelFault) → relabelled v (acted 0 v.label a at o) ≡ Ok u
+          → Bound w w' base (with_fields (accounts_after l.fields a) l) u
+      go None e = subst (λ (y : View). Bound w w' base (with_fields (accounts_after l.fields a) l) y) (ok_inj e)
+          (relabel l v (accounts_after l.fields a) (label_after v.label a) h
+          (fields_after w w' v.label l.fields a h.fields))
       go (Some f) e = not_ok e
 
-  idle_issue : (l : Ledger) (v u : View) (n at : ℕ) → n ≤ most_owed → Bound w w' base l v → l.saving ≡ None → l.owed ≡ 0 → ordering v n at ≡ Ok u → Bound w w' base (issue_noted n l) u
+  idle_issue : (l : Ledger) (v u : View) (n at : ℕ) → n ≤ most_owed → Bound w w' base l v → l.saving ≡ None
+      → l.owed ≡ 0 → ordering v n at ≡ Ok u → Bound w w' base (issue_noted n l) u
   idle_issue l v u n at few h s o e = go (leb (v.ordered + n) most_ordered) refl e
     where
       ties : (b : Bool) → eqb n 0 ≡ b → Ties (cond b idle (owing n n)) l.saving l.draft n n
       ties true z = (s, eqb-true n 0 z)
       ties false z = (s, refl, refl, above_zero n z)
 
-      after : leb (v.ordered + n) most_ordered ≡ true → Bound w w' base (issue_noted n l) (with_doing (owing_all n) (with_ordered (v.ordered + n) v))
+      after : leb (v.ordered + n) most_ordered ≡ true
+          → Bound w w' base (issue_noted n l) (with_mode (owing_all n) (with_ordered (v.ordered + n) v))
       after b = record {
         first = h.first;
         second = h.second;
         fields = h.fields;
         forms = h.forms;
-        doing = ties (eqb n 0) refl;
+        mode = ties (eqb n 0) refl;
         ordered = ap (λ (k : ℕ). k + n) h.ordered;
         few = few;
         most = omega (arith, h.ordered, leb-true (v.ordered + n) most_ordered b);
@@ -151,49 +163,65 @@ module _ (r : Reader) (w w' : Wheels) (base : ℕ) where
         latest = h.latest;
       }
 
-      go : (b : Bool) → leb (v.ordered + n) most_ordered ≡ b → cond b (Ok (with_doing (owing_all n) (with_ordered (v.ordered + n) v))) (refused TooManyOrdered at) ≡ Ok u
+      go : (b : Bool) → leb (v.ordered + n) most_ordered ≡ b
+          → cond b (Ok (with_mode (owing_all n) (with_ordered (v.ordered + n) v))) (refused TooManyOrdered at) ≡ Ok u
           → Bound w w' base (issue_noted n l) u
       go true b e = subst (λ (y : View). Bound w w' base (issue_noted n l) y) (ok_inj e) (after b)
       go false b e = not_ok e
 
   -- the actions in the ledger are those of the form's commands in the store
-  idle_recall : (l : Ledger) (v u : View) (n at : ℕ) → Bound w w' base l v → recalled v n at (v.forms.at n) ≡ Ok u → Bound w w' base (recall_noted (l.forms n) l) u
+  idle_recall : (l : Ledger) (v u : View) (n at : ℕ) → Bound w w' base l v → recalled v n at (v.forms.at n) ≡ Ok u
+      → Bound w w' base (recall_noted (l.forms n) l) u
   idle_recall l v u n at h e = go (v.forms.at n) (l.forms n) (h.forms n) e
     where
-      done : (f : Form) (x : List ℕ) → actions_of f ≡ map read_action (commands_of x) → (o : Result LabelSeen Blame) → done_all n v.label (commands_of x) ≡ o
+      done : (f : Form) (x : List ℕ) → actions_of f ≡ map read_action (commands_of x) → (o : Result LabelSeen Blame)
+          → done_all n v.label (commands_of x) ≡ o
           → relabelled v o ≡ Ok u → Bound w w' base (recall_noted (Some f) l) u
       done f x q (Ok m) d e = subst (λ (y : View). Bound w w' base (recall_noted (Some f) l) y) (ok_inj e)
-          (relabel l v (entries_after_all l.fields (actions_of f)) m h
+          (relabel l v (accounts_after_all l.fields (actions_of f)) m h
           (fields_after_all w w' v.label m l.fields (actions_of f) h.fields
           (ap (act_all v.label) q ∙ sym (done_acts n v.label (commands_of x)) ∙ ap ok_of d)))
       done f x q (Err f') d e = not_ok e
 
-      go : (o : Option (List ℕ)) (f : Option Form) → FormTied o f → recalled v n at o ≡ Ok u → Bound w w' base (recall_noted f l) u
+      go : (o : Option (List ℕ)) (f : Option Form) → FormTied o f → recalled v n at o ≡ Ok u
+          → Bound w w' base (recall_noted f l) u
       go o None t e = not_ok (subst (λ (k : Option (List ℕ)). recalled v n at k ≡ Ok u) t e)
-      go o (Some (given x)) t e = done (given x) x refl (done_all n v.label (commands_of x)) refl (subst (λ (k : Option (List ℕ)). recalled v n at k ≡ Ok u) t e)
+      go o (Some (given x)) t e =
+          done (given x) x refl (done_all n v.label (commands_of x)) refl
+          (subst (λ (k : Option (List ℕ)). recalled v n at k ≡ Ok u) t e)
       go o (Some (filed ws)) t e =
-          done (filed ws) (joined ws) (sym (actions_of_lem r ws t.1 (omega (arith, t.2)))) (done_all n v.label (commands_of (joined ws))) refl
+          done (filed ws) (joined ws) (sym (actions_of_lem r ws t.1 (omega (arith, t.2))))
+          (done_all n v.label (commands_of (joined ws))) refl
           (subst (λ (k : Option (List ℕ)). recalled v n at k ≡ Ok u) t.0 e)
 
-  idle_request : (l : Ledger) (v u : View) (q : Request) (whole : List ℕ) (at : ℕ) → ((n : ℕ) → q ≡ issue n → n ≤ most_owed) → Bound w w' base l v → l.saving ≡ None → l.owed ≡ 0
+  idle_request : (l : Ledger) (v u : View) (q : Request) (whole : List ℕ) (at : ℕ)
+      → ((n : ℕ) → q ≡ issue n → n ≤ most_owed) → Bound w w' base l v → l.saving ≡ None → l.owed ≡ 0
       → when_idle v q at ≡ Ok u → Bound w w' base (noted q whole l) u
   idle_request l v u (on_label a) whole at few h s o e = idle_label l v u a whole at h s e
   idle_request l v u (issue n) whole at few h s o e = idle_issue l v u n at (few n refl) h s o e
   idle_request l v u (begin_saving n) whole at few h s o e =
-      subst (λ (y : View). Bound w w' base (with_draft (Some n) [] l) y) (ok_inj e) (redo l v (saving n []) (Some n) [] h (refl, o, refl, tt, omega arith))
+      subst (λ (y : View). Bound w w' base (with_draft (Some n) [] l) y) (ok_inj e)
+      (redo l v (saving n []) (Some n) [] h (refl, o, refl, tt, omega arith))
   idle_request l v u end_saving whole at few h s o e = not_ok e
   idle_request l v u (recall n) whole at few h s o e = idle_recall l v u n at h e
   idle_request l v u empty_store whole at few h s o e =
-      subst (λ (y : View). Bound w w' base (with_forms (λ n. None) l) y) (ok_inj e) (restore l v (emptied v.forms) (λ n. None) h (λ n. refl))
+      subst (λ (y : View). Bound w w' base (with_forms (λ n. None) l) y) (ok_inj e)
+      (restore l v (emptied v.forms) (λ n. None) h (λ n. refl))
   idle_request l v u tell_status whole at few h s o e = subst (λ (y : View). Bound w w' base l y) (ok_inj e) h
-  idle_request l v u reset whole at few h s o e = subst (λ (y : View). Bound w w' base (reset_noted l) y) (ok_inj e) (tied_reset l v h)
+  idle_request l v u reset whole at few h s o e =
+      subst (λ (y : View). Bound w w' base (reset_noted l) y) (ok_inj e) (tied_reset l v h)
 
   -- ---- a station that saves a form
-  module _ (l : Ledger) (v u : View) (n : ℕ) (d : List ℕ) (h : Bound w w' base l v) (t : Ties (saving n d) l.saving l.draft l.owed l.size) where
-    saving_label : (a : Action) (whole : List ℕ) (at : ℕ) → Saved whole → drafted v n d whole at ≡ Ok u → Bound w w' base (label_noted l.saving a whole l) u
-    saving_label a whole at s e = subst⁻¹ (λ (o : Option ℕ). Bound w w' base (label_noted o a whole l) u) t.0 (go (leb (length d + length whole) longest_form) refl e)
+  module _ (l : Ledger) (v u : View) (n : ℕ) (d : List ℕ) (h : Bound w w' base l v)
+      (t : Ties (saving n d) l.saving l.draft l.owed l.size) where
+    saving_label : (a : Action) (whole : List ℕ) (at : ℕ) → Saved whole → drafted v n d whole at ≡ Ok u
+        → Bound w w' base (label_noted l.saving a whole l) u
+    saving_label a whole at s e =
+        subst⁻¹ (λ (o : Option ℕ). Bound w w' base (label_noted o a whole l) u) t.0
+        (go (leb (length d + length whole) longest_form) refl e)
       where
-        go : (b : Bool) → leb (length d + length whole) longest_form ≡ b → cond b (Ok (with_doing (saving n (d ++ whole)) v)) (refused DraftFull at) ≡ Ok u
+        go : (b : Bool) → leb (length d + length whole) longest_form ≡ b
+            → cond b (Ok (with_mode (saving n (d ++ whole)) v)) (refused DraftFull at) ≡ Ok u
             → Bound w w' base (with_draft (Some n) (l.draft ++ whole ∷ []) l) u
         go true b e = subst (λ (y : View). Bound w w' base (with_draft (Some n) (l.draft ++ whole ∷ []) l) y) (ok_inj e)
             (redo l v (saving n (d ++ whole)) (Some n) (l.draft ++ whole ∷ []) h (
@@ -205,8 +233,10 @@ module _ (r : Reader) (w w' : Wheels) (base : ℕ) where
             ))
         go false b e = not_ok e
 
-    saving_end : (at : ℕ) → filed_by v n d at (put_answer v.forms n (length d)) ≡ Ok u → Bound w w' base (end_noted l.saving l) u
-    saving_end at e = subst⁻¹ (λ (o : Option ℕ). Bound w w' base (end_noted o l) u) t.0 (go (put_answer v.forms n (length d)) e)
+    saving_end : (at : ℕ) → filed_by v n d at (put_answer v.forms n (length d)) ≡ Ok u
+        → Bound w w' base (end_noted l.saving l) u
+    saving_end at e = subst⁻¹ (λ (o : Option ℕ). Bound w w' base (end_noted o l) u) t.0
+        (go (put_answer v.forms n (length d)) e)
       where
         put : (k : ℕ) (b : Bool) → FormTied (cond b (Some d) (v.forms.at k)) (cond b (Some (filed l.draft)) (l.forms k))
         put k true = (ap Some t.2, t.3, subst (λ (x : List ℕ). length x ≤ longest_form) t.2 t.4)
@@ -214,12 +244,15 @@ module _ (r : Reader) (w w' : Wheels) (base : ℕ) where
 
         go : (o : Result (Unit {0}) StoreFault) → filed_by v n d at o ≡ Ok u → Bound w w' base (end_noted (Some n) l) u
         go (Ok x) e = subst (λ (y : View). Bound w w' base (end_noted (Some n) l) y) (ok_inj e)
-            (redo (with_forms (λ k. cond (eqb k n) (Some (filed l.draft)) (l.forms k)) l) (with_stored (stored v.forms n d) v) idle None []
-            (restore l v (stored v.forms n d) (λ k. cond (eqb k n) (Some (filed l.draft)) (l.forms k)) h (λ k. put k (eqb k n)))
+            (redo (with_forms (λ k. cond (eqb k n) (Some (filed l.draft)) (l.forms k)) l)
+            (with_stored (stored v.forms n d) v) idle None []
+            (restore l v (stored v.forms n d) (λ k. cond (eqb k n) (Some (filed l.draft)) (l.forms k)) h
+            (λ k. put k (eqb k n)))
             (refl, t.1))
         go (Err x) e = not_ok e
 
-    saving_request : (q : Request) (whole : List ℕ) (at : ℕ) → ((a : Action) → q ≡ on_label a → Saved whole) → when_saving v n d q whole at ≡ Ok u → Bound w w' base (noted q whole l) u
+    saving_request : (q : Request) (whole : List ℕ) (at : ℕ) → ((a : Action) → q ≡ on_label a → Saved whole)
+        → when_saving v n d q whole at ≡ Ok u → Bound w w' base (noted q whole l) u
     saving_request (on_label a) whole at s e = saving_label a whole at (s a refl) e
     saving_request (issue k) whole at s e = not_ok e
     saving_request (begin_saving k) whole at s e = not_ok e
@@ -227,10 +260,12 @@ module _ (r : Reader) (w w' : Wheels) (base : ℕ) where
     saving_request (recall k) whole at s e = not_ok e
     saving_request empty_store whole at s e = not_ok e
     saving_request tell_status whole at s e = subst (λ (y : View). Bound w w' base l y) (ok_inj e) h
-    saving_request reset whole at s e = subst (λ (y : View). Bound w w' base (reset_noted l) y) (ok_inj e) (tied_reset l v h)
+    saving_request reset whole at s e =
+        subst (λ (y : View). Bound w w' base (reset_noted l) y) (ok_inj e) (tied_reset l v h)
 
   -- ---- a station that owes labels
-  owing_request : (l : Ledger) (v u : View) (q : Request) (whole : List ℕ) (at : ℕ) → Bound w w' base l v → when_owing v q at ≡ Ok u → Bound w w' base (noted q whole l) u
+  owing_request : (l : Ledger) (v u : View) (q : Request) (whole : List ℕ) (at : ℕ) → Bound w w' base l v
+      → when_owing v q at ≡ Ok u → Bound w w' base (noted q whole l) u
   owing_request l v u (on_label a) whole at h e = not_ok e
   owing_request l v u (issue k) whole at h e = not_ok e
   owing_request l v u (begin_saving k) whole at h e = not_ok e
@@ -238,42 +273,50 @@ module _ (r : Reader) (w w' : Wheels) (base : ℕ) where
   owing_request l v u (recall k) whole at h e = not_ok e
   owing_request l v u empty_store whole at h e = not_ok e
   owing_request l v u tell_status whole at h e = subst (λ (y : View). Bound w w' base l y) (ok_inj e) h
-  owing_request l v u reset whole at h e = subst (λ (y : View). Bound w w' base (reset_noted l) y) (ok_inj e) (tied_reset l v h)
+  owing_request l v u reset whole at h e =
+      subst (λ (y : View). Bound w w' base (reset_noted l) y) (ok_inj e) (tied_reset l v h)
 
   -- ---- the calls
-  tied_request : (l : Ledger) (v u : View) (q : Request) (whole : List ℕ) (at : ℕ) → ((n : ℕ) → q ≡ issue n → n ≤ most_owed) → ((a : Action) → q ≡ on_label a → Saved whole) → Bound w w' base l v
+  tied_request : (l : Ledger) (v u : View) (q : Request) (whole : List ℕ) (at : ℕ)
+      → ((n : ℕ) → q ≡ issue n → n ≤ most_owed) → ((a : Action) → q ≡ on_label a → Saved whole) → Bound w w' base l v
       → answered v q whole at ≡ Ok u → Bound w w' base (noted q whole l) u
-  tied_request l v u q whole at few s h e = go v.doing h.doing e
+  tied_request l v u q whole at few s h e = go v.mode h.mode e
     where
-      go : (d : Doing) → Ties d l.saving l.draft l.owed l.size → answered_in d v q whole at ≡ Ok u → Bound w w' base (noted q whole l) u
+      go : (d : ModeSeen) → Ties d l.saving l.draft l.owed l.size → answered_in d v q whole at ≡ Ok u
+          → Bound w w' base (noted q whole l) u
       go idle t e = idle_request l v u q whole at few h t.0 t.1 e
       go (saving n d) t e = saving_request l v u n d h t q whole at s e
       go (owing left all) t e = owing_request l v u q whole at h e
 
-  tied_command : (l : Ledger) (v u : View) (job : List ℕ) (at answer work next : ℕ) → Bound w w' base l v → commanded v job at answer work ≡ Ok (u, next)
+  tied_command : (l : Ledger) (v u : View) (job : List ℕ) (at answer work next : ℕ) → Bound w w' base l v
+      → commanded v job at answer work ≡ Ok (u, next)
       → Bound w w' base (read_noted (read_at job at) (whole_at job at) l) u
   tied_command l v u job at answer work next h e =
       let a = accepted_read v job at answer work u next e in
       let cut = r.cut job at a.0 a.1 in
-      subst⁻¹ (λ (o : Result Plain _). Bound w w' base (read_noted o (whole_at job at) l) u) a.1
+      subst⁻¹ (λ (o : Result CommandSeen _). Bound w w' base (read_noted o (whole_at job at) l) u) a.1
       (tied_request l v u (request_of a.0) (whole_at job at) at (issue_few a.0)
       (λ x q. record { read = cut.0; action = x; whole = cut.1.whole; asks = cut.1.asks ∙ q }) h a.2)
 
-  tied_print : (l : Ledger) (v u : View) (left size : ℕ) → Bound w w' base l v → Ties (owing left size) l.saving l.draft l.owed l.size → Printed v left size u
+  tied_print : (l : Ledger) (v u : View) (left size : ℕ) → Bound w w' base l v
+      → Ties (owing left size) l.saving l.draft l.owed l.size → Printed v left size u
       → Bound w w' base (print_noted w w' l) u
   tied_print l v u left size h t p = subst⁻¹ (λ (y : View). Bound w w' base (print_noted w w' l) y) p.after after
     where
-      ties : (b : Bool) → leb left 1 ≡ b → Ties (cond b idle (owing (left - 1) size)) l.saving l.draft (l.owed - 1) l.size
+      ties : (b : Bool) → leb left 1 ≡ b
+          → Ties (cond b idle (owing (left - 1) size)) l.saving l.draft (l.owed - 1) l.size
       ties true z = (t.0, omega (arith, t.1, leb-true left 1 z))
       ties false z = (t.0, ap (λ (k : ℕ). k - 1) t.1, t.2, omega (arith, leb-false left 1 z))
 
-      after : Bound w w' base (print_noted w w' l) (printed v left size (taken_paper v.paper (tag_line v left size) u.paper.left))
+      after : Bound w w' base (print_noted w w' l)
+          (printed v left size (with_tag v.paper (tag_line v left size) u.paper.left))
       after = record {
         first = h.first;
         second = h.second;
-        fields = ap₂ (λ (a b : Wheels). (turned_label a b v.label).table) h.first h.second ∙ fields_turned w w' v.label l.fields h.fields;
+        fields = ap₂ (λ (a b : Wheels). (turned_label a b v.label).table) h.first h.second
+            ∙ fields_turned w w' v.label l.fields h.fields;
         forms = h.forms;
-        doing = ties (leb left 1) refl;
+        mode = ties (leb left 1) refl;
         ordered = h.ordered;
         few = omega (arith, h.few);
         most = h.most;
@@ -283,10 +326,12 @@ module _ (r : Reader) (w w' : Wheels) (base : ℕ) where
             ∙ ap₂ (λ (n k : ℕ). line_of (n - k + 1) n (table_now w w' l.fields)) (sym t.2) (sym t.1);
       }
 
-  tied_printed : (l : Ledger) (v u : View) → Bound w w' base l v → PrintedIn v.doing v u → Bound w w' base (print_noted w w' l) u
-  tied_printed l v u h p = go v.doing h.doing p
+  tied_printed : (l : Ledger) (v u : View) → Bound w w' base l v → PrintedIn v.mode v u
+      → Bound w w' base (print_noted w w' l) u
+  tied_printed l v u h p = go v.mode h.mode p
     where
-      go : (d : Doing) → Ties d l.saving l.draft l.owed l.size → PrintedIn d v u → Bound w w' base (print_noted w w' l) u
+      go : (d : ModeSeen) → Ties d l.saving l.draft l.owed l.size → PrintedIn d v u
+          → Bound w w' base (print_noted w w' l) u
       go idle t p = absurd p
       go (saving n d) t p = absurd p
       go (owing left size) t p = tied_print l v u left size h t p
@@ -297,7 +342,7 @@ module _ (r : Reader) (w w' : Wheels) (base : ℕ) where
     second = h.second;
     fields = h.fields;
     forms = h.forms;
-    doing = h.doing;
+    mode = h.mode;
     ordered = h.ordered;
     few = h.few;
     most = h.most;
@@ -307,7 +352,8 @@ module _ (r : Reader) (w w' : Wheels) (base : ℕ) where
   })
 
   -- every call keeps ledger and station together
-  pub tied_step : (l : Ledger) (v u : View) (c : Call) (ok : Bool) → Bound w w' base l v → Step v c ok u → Bound w w' base (feed w w' l c ok) u
+  pub tied_step : (l : Ledger) (v u : View) (c : Call) (ok : Bool) → Bound w w' base l v → Performed v c ok u
+      → Bound w w' base (feed w w' l c ok) u
   tied_step l v u (command job at answer work) true h s = tied_command l v u job at answer work s.0 h s.1
   tied_step l v u (print work) true h s = tied_printed l v u h s.1
   tied_step l v u reload true h s = tied_reload l v u h s
@@ -316,13 +362,14 @@ module _ (r : Reader) (w w' : Wheels) (base : ℕ) where
   tied_step l v u reload false h s = absurd s
 
 -- a newly made station
-pub tied_made : (forms : Forms) (paper : Paper) (w w' : Wheels) → Bound w w' paper.taken (opened forms.at) (made forms paper w w')
+pub tied_made : (forms : Forms) (paper : Paper) (w w' : Wheels)
+    → Bound w w' paper.taken (opened forms.at) (made forms paper w w')
 tied_made forms paper w w' = record {
   first = refl;
   second = refl;
   fields = fields_new w w';
   forms = λ n. kept (forms.at n);
-  doing = (refl, refl);
+  mode = (refl, refl);
   ordered = refl;
   few = omega arith;
   most = omega arith;

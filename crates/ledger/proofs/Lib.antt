@@ -8,5 +8,11 @@ pub mod Recalls
 pub mod Runs
 pub mod Moved
 pub mod Reading
-pub mod Logs
 pub mod Lending
+pub mod Logs
+pub mod LookingBack
+pub mod Dealt
+pub mod LastSet
+pub mod Facts
+pub mod Fitting
+pub mod Telling

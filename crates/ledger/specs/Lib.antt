@@ -1,4 +1,8 @@
-pub mod Entries
+pub mod FieldAccounts
 pub mod Ledgers
 pub mod Laws
-pub mod Asking
+pub mod Log
+pub mod Histories
+pub mod Words
+pub mod Told
+pub mod OddCases

@@ -41,7 +41,11 @@ same_is false true e = e
 abbrev pub dots_from : List ℕ
 dots_from = 255 ∷ 127 ∷ 63 ∷ 31 ∷ 15 ∷ 7 ∷ 3 ∷ 1 ∷ 0 ∷ []
 
+-- the byte of the table at place a is right at dot j
+abbrev right : ℕ → ℕ → Bool
+right a j = same (bit_of (get_or dots_from a 0) j) (leb a j)
+
 pub bit_from : (a j : ℕ) → a ≤ 8 → j < 8 → bit_of (get_or dots_from a 0) j ≡ leb a j
 unfolding same
 bit_from a j h k =
-    same_is _ _ (each_at 8 (λ j. same (bit_of (get_or dots_from a 0) j) (leb a j)) (each_at 9 (λ a. each 8 (λ j. same (bit_of (get_or dots_from a 0) j) (leb a j))) refl a (omega arith)) j k)
+    same_is _ _ (each_at 8 (right a) (each_at 9 (λ a. each 8 (right a)) refl a (omega arith)) j k)

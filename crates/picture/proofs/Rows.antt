@@ -20,7 +20,9 @@ pub redrawn_as :
     → Redrawn f xs ys → Redrawn g xs ys
 redrawn_as f g xs ys same was =
     record {
-      dots = λ p j hp hj. was.dots p j hp hj ∙ same (p / 54) (p % 54 * 8 + j) (bit_of (get_or xs p 0) j) (omega arith) (omega arith);
+      dots =
+          λ p j hp hj. was.dots p j hp hj
+          ∙ same (p / 54) (p % 54 * 8 + j) (bit_of (get_or xs p 0) j) (omega arith) (omega arith);
     }
 
 -- one drawing and then another
@@ -38,7 +40,8 @@ rows_sofar from to columns row r c = (leb from r && (ltb r row && ltb r to)) && 
 
 pub row_more :
     (i : Ink) (from to : ℕ) (columns : Span) (row r c : ℕ) (dot : Bool) → from ≤ row → row < to
-    → inked i (eqb r row && within columns c) (inked i (rows_sofar from to columns row r c) dot) ≡ inked i (rows_sofar from to columns (row + 1) r c) dot
+    → inked i (eqb r row && within columns c) (inked i (rows_sofar from to columns row r c) dot)
+    ≡ inked i (rows_sofar from to columns (row + 1) r c) dot
 row_more Black from to columns row r c dot h k = grind (arith, nat_tests)
 row_more White from to columns row r c dot h k = grind (arith, nat_tests)
 row_more Flip from to columns row r c dot h k = grind (arith, nat_tests)

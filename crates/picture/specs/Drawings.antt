@@ -1,4 +1,4 @@
--- What drawings make of a dot, which is black (true) or white (false). Rows count downwards and columns to the right, from 0.
+-- What drawings make of a dot, black (true) or white (false). Rows count downwards and columns to the right, from 0.
 --   boxed a b r c    row r, column c lies in the box with the corners a and b, its sides included
 --   covers d r c     the drawing d touches the dot at row r, column c
 --   acts d r c dot   what d makes of that dot

@@ -1,7 +1,8 @@
--- The picture of a label, dot by dot, and its bytes. A picture tells of a row and a column whether the dot there is black.
+-- The picture of a label, dot by dot, and its bytes. A picture tells of a row and a column whether the dot is black.
 --   drawn ds r c dot             what the drawings ds, one after the other, make of the dot at row r, column c
 --   white                        the picture without a black dot, on which a label is drawn
---   cut_at width long r c dot    the dot where a label of these sizes, in tenths, is cut: white from the width's dot on and from the length's
+--   cut_at width long r c dot    the dot where a label of these sizes, in tenths, is cut: white from the width's dot on
+--                                and from the length's
 --   picture start ds width long  the picture `start` after the drawings, cut
 --   packed eight                 the byte of eight dots, the first in the highest bit, black 1
 --   byte_at pic p                byte p of a picture

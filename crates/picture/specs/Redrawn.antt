@@ -5,4 +5,5 @@ use Rattle.limits.specs.Limits.{picture_bytes}
 use Rattle.picture.specs.Bits.{bit_of, row_of, column_of}
 
 pub record Redrawn (f : ℕ → ℕ → Bool → Bool) (before after : List ℕ) : Type 0 where
-  pub dots : (p j : ℕ) → p < picture_bytes → j < 8 → bit_of (slice_index after p) j ≡ f (row_of p) (column_of p j) (bit_of (slice_index before p) j)
+  pub dots : (p j : ℕ) → p < picture_bytes → j < 8
+      → bit_of (slice_index after p) j ≡ f (row_of p) (column_of p j) (bit_of (slice_index before p) j)

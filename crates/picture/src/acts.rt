@@ -10,7 +10,7 @@ use crate::ink::Ink;
 use crate::span::{Edges, Span};
 use limits::sizes::PICTURE_BYTES;
 
-// Blackens the dots near a side of the box, each once: above, below, and at the left and the right of what lies between.
+// Blackens the dots near a side of the box, each once: above, below, and left and right of what lies between.
 fn draw_rectangle(corner: Point, opposite: Point, thick: u16, dots: &mut [u8; PICTURE_BYTES])
     ensures { Redrawn (acts (Rectangle corner opposite thick)) dots.old dots.new }
 {

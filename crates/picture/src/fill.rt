@@ -10,7 +10,7 @@ use crate::span::Span;
 use limits::sizes::{PICTURE_BYTES, PICTURE_ROWS, ROW_BYTES};
 
 // Inks the dots of one row; only the bytes that the columns touch are visited.
-// Kept so: over chunks_exact_mut and iter_mut no invariant can name the dots, and what they are at the return stays open.
+// Kept so: over chunks_exact_mut and iter_mut no invariant can name the dots.
 fn fill_row(dots: &mut [u8; PICTURE_BYTES], row: usize, columns: Span, ink: Ink)
     requires { row < picture_rows }
     ensures { Redrawn (λ r c. inked ink (r == row && within columns c)) dots.old dots.new }

@@ -12,7 +12,8 @@ pub(crate) enum Ink {
 }
 
 // A byte whose dots from a place on are black, for the places 0 to 8.
-// Kept so: 0xff >> place takes 521,000 instructions for a box over the whole picture, the table 457,000 (bench/picture.sh).
+// Kept so: for a box over the whole picture 0xff >> place takes 521,000 instructions, the table 457,000
+// (bench/measure).
 const DOTS_FROM: [u8; 9] = [255, 127, 63, 31, 15, 7, 3, 1, 0];
 
 impl Ink {

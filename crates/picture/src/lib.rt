@@ -19,9 +19,10 @@ mod fill;
 mod ink;
 mod span;
 
-// The dots of a picture: rows, and columns of each.
+/// Rows of dots of a picture.
 pub const ROWS: usize = PICTURE_ROWS;
 
+/// Dots of a row.
 pub const COLUMNS: usize = 8 * ROW_BYTES;
 
 const ALL_ROWS: Span = Span { from: 0, to: ROWS };
@@ -61,8 +62,9 @@ fn whiten(dots: &mut [u8; PICTURE_BYTES])
     fill_box(dots, ALL_ROWS, ALL_COLUMNS, Ink::White);
 }
 
-// The picture of a label of this width and length, in tenths of a millimetre, with these drawings: 400 rows of 54 bytes, the
-// highest bit first, black 1. Bytes behind the picture stay, and a buffer that is too short for it stays whole.
+/// The picture of a label of this width and length, in tenths of a millimetre, with these drawings: 400 rows of 54
+/// bytes, the highest bit first, black 1. Bytes behind the picture stay, and a buffer that is too short for it, below
+/// 21,600 bytes, is refused and stays whole.
 pub fn draw(
     drawings: &[Drawing],
     label_width: u16,
@@ -70,7 +72,8 @@ pub fn draw(
     dots: &mut [u8],
 ) -> Result<(), Refusal>
     ensures answer { result ≡ (if too_short dots.old then Err ShortBuffer else Ok tt) }
-    ensures bytes { dots.new ≡ shown (picture white drawings.now label_width label_length) dots.old }
+    ensures bytes { let pic = picture white drawings.now label_width label_length in
+        dots.new ≡ shown pic dots.old }
 {
     let Some(front) = dots.first_chunk_mut() else {
         return Err(Refusal::ShortBuffer);

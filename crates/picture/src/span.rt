@@ -32,7 +32,8 @@ pub(crate) fn dot_of(tenth: u16) -> usize
 impl Span {
     // `thick` dots from a tenth's dot on.
     pub(crate) fn band(tenth: u16, thick: u16) -> Span
-        ensures { (result.from ≡ dot_of tenth) × (result.to ≡ dot_of tenth + thick) }
+        ensures from { result.from ≡ dot_of tenth }
+        ensures to { result.to ≡ dot_of tenth + thick }
     {
         let from = dot_of(tenth);
         Span {
@@ -43,7 +44,8 @@ impl Span {
 
     // The dots from a tenth's dot on, before `to`.
     pub(crate) fn starting(tenth: u16, to: usize) -> Span
-        ensures { (result.from ≡ dot_of tenth) × (result.to ≡ to) }
+        ensures from { result.from ≡ dot_of tenth }
+        ensures to { result.to ≡ to }
     {
         Span {
             from: dot_of(tenth),
@@ -53,7 +55,8 @@ impl Span {
 
     // The dots from one tenth to another, both included, whichever comes first.
     pub(crate) fn between(one: u16, other: u16) -> Span
-        ensures { (result.from ≡ min (dot_of one) (dot_of other)) × (result.to ≡ max (dot_of one) (dot_of other) + 1) }
+        ensures from { result.from ≡ min (dot_of one) (dot_of other) }
+        ensures to { result.to ≡ max (dot_of one) (dot_of other) + 1 }
     {
         let a = dot_of(one);
         let b = dot_of(other);
@@ -77,8 +80,10 @@ impl Span {
 impl Edges {
     // The dots from one tenth to another: those fewer than `thick` dots from an end, and those between.
     pub(crate) fn between(one: u16, other: u16, thick: u16) -> Edges
-        ensures edge { (x : ℕ) → (within result.first x || within result.last x) ≡ (amid one other x && near thick one other x) }
-        ensures inner { (x : ℕ) → within result.inner x ≡ (amid one other x && not (near thick one other x)) }
+        ensures edge { (x : ℕ) → let edge = within result.first x || within result.last x in
+            edge ≡ (amid one other x && near thick one other x) }
+        ensures inner { (x : ℕ) → let inner = within result.inner x in
+            inner ≡ (amid one other x && not (near thick one other x)) }
     {
         let whole = Span::between(one, other);
         let upper = whole.to.min(whole.from + thick as usize);

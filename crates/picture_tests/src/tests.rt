@@ -1,6 +1,6 @@
 // What drawings look like, on small figures that can be counted by hand.
 use faults::Refusal;
-use limits::sizes::{PICTURE_BYTES, ROW_BYTES};
+use limits::sizes::{PICTURE_BYTES, PICTURE_ROWS, ROW_BYTES};
 use picture::draw;
 use picture::drawing::{Drawing, Point};
 use std::alloc::Global;
@@ -48,7 +48,7 @@ fn shows(
     let mut dots = vec![in heap; 0xaa; PICTURE_BYTES]?;
     draw(drawings, label.width, label.length, &mut dots)?;
     assert_eq!(rt; count(&dots), look.black);
-    assert!(rt; look.row < 400 && look.place < ROW_BYTES);
+    assert!(rt; look.row < PICTURE_ROWS && look.place < ROW_BYTES);
     let i = look.row * ROW_BYTES + look.place;
     assert!(rt; i < dots.len());
     assert_eq!(rt; dots[i], look.byte);

@@ -4,7 +4,7 @@ ghost use Rattle.faults.specs.declared.Refusal.TheVariants.{OutOfStock as Told};
 
 use faults::Refusal;
 
-// No stock is left; a line that no tag can have is refused alike.
+/// No stock is left; a line that no tag can have is refused alike.
 #[derive(Clone, Copy, PartialEq, Eq, Debug)]
 pub enum PrinterFault {
     OutOfStock,

@@ -1,6 +1,6 @@
 -- All o r after: doing all commands of a form, which comes to o, answers r; accepted, it leaves the label of o.
--- One o next r before after: doing one command of a form, which comes to o, answers r; accepted, it tells the next place and
--- leaves the label of o; refused, it tells the blame of o and leaves the label as it was.
+-- One o next r before after: doing one command of a form, which comes to o, answers r; accepted, it tells the next
+-- place and leaves the label of o; refused, it tells the blame of o and leaves the label as it was.
 use Rattle.std.specs.Prelude.{◌≡◌, ℕ, Ok, Err, Result}
 use Rattle.label.specs.Labels.{LabelSeen}
 use Rattle.station.specs.declared.blame.Blame.{Blame}

@@ -6,5 +6,4 @@ pub mod Recalls
 pub mod Steps
 pub mod Drafts
 pub mod Seen
-pub mod Asking
 pub mod Forming

@@ -1,14 +1,16 @@
 -- What a command asks of a station, in the station's own words.
---   Request        an action on the label, an issue of labels, the beginning or the end of saving a form, the recall of a form,
---                  emptying the store, telling the status, or a reset
+--   Request        an action on the label, an issue of labels, the beginning or the end of saving a form, the recall
+--                  of a form, emptying the store, telling the status, or a reset
 --   request_of c   the request of a command as it was read
-use Rattle.std.specs.Prelude.{ℕ, List, Some, None, Option}
-use Rattle.jobparts.specs.Slots.{Slot}
-use Rattle.jobgroups.specs.Commands.{Plain}
+use Rattle.std.specs.Prelude.{ℕ, List}
+use Rattle.jobparts.specs.Parts.{PartSeen}
+use Rattle.jobgroups.specs.Commands.{CommandSeen}
 use Rattle.jobgroups.specs.declared.letters.Letters.{Letters}
-use Rattle.jobgroups.specs.declared.letters.Letters.TheVariants.{D, C, Pc, Xb, RcLinks, Rc, Rb, Lc, Xr, Xs, Xo, Xp, Xq, J1, Ws, Wr}
-use Rattle.label.specs.Actions.{Action, action_of, bytes}
-use Rattle.jobvalues.specs.Meaning.{figure, small}
+use Rattle.jobgroups.specs.declared.letters.Letters.TheVariants.{OfLabel, OfStation}
+use Rattle.jobgroups.specs.declared.letters.StationLetters.{StationLetters}
+use Rattle.jobgroups.specs.declared.letters.StationLetters.TheVariants.{Xs, Xo, Xp, Xq, J1, Ws, Wr}
+use Rattle.label.specs.Actions.{Action, action_for, bytes}
+use Rattle.jobvalues.specs.Meaning.{four_digit_number, two_digit_number}
 
 pub data Request : Type 0 where
   on_label : Action → Request
@@ -20,28 +22,18 @@ pub data Request : Type 0 where
   tell_status : Request
   reset : Request
 
--- a command that is no label command; the letters of label commands do not come here
-abbrev pub other_request : Letters → List Slot → Request
-other_request D ps = tell_status
-other_request C ps = tell_status
-other_request Pc ps = tell_status
-other_request Xb ps = tell_status
-other_request RcLinks ps = tell_status
-other_request Rc ps = tell_status
-other_request Rb ps = tell_status
-other_request Lc ps = tell_status
-other_request Xr ps = tell_status
-other_request Xs ps = issue (figure (bytes 0 ps))
-other_request Xo ps = begin_saving (small (bytes 0 ps))
-other_request Xp ps = end_saving
-other_request Xq ps = recall (small (bytes 0 ps))
-other_request J1 ps = empty_store
-other_request Ws ps = tell_status
-other_request Wr ps = reset
+abbrev pub request_for : StationLetters → List PartSeen → Request
+request_for Xs ps = issue (four_digit_number (bytes 0 ps))
+request_for Xo ps = begin_saving (two_digit_number (bytes 0 ps))
+request_for Xp ps = end_saving
+request_for Xq ps = recall (two_digit_number (bytes 0 ps))
+request_for J1 ps = empty_store
+request_for Ws ps = tell_status
+request_for Wr ps = reset
 
-abbrev pub request_by : Option Action → Request → Request
-request_by (Some a) other = on_label a
-request_by None other = other
+abbrev pub request_by : Letters → List PartSeen → Request
+request_by (OfLabel l) ps = on_label (action_for l ps)
+request_by (OfStation l) ps = request_for l ps
 
-abbrev pub request_of : Plain → Request
-request_of c = request_by (action_of c) (other_request c.letters c.parts)
+abbrev pub request_of : CommandSeen → Request
+request_of c = request_by c.letters c.parts

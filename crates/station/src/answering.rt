@@ -1,44 +1,38 @@
 // What a station answers to a well-formed command.
 ghost use Rattle.std.specs.Prelude.{◌≡◌, ◌≤◌, length};
-ghost use Rattle.jobgroups.specs.Commands.{plain_of};
-ghost use Rattle.label.specs.Actions.{action_of};
-ghost use Rattle.station.specs.Seen.{seen};
-ghost use Rattle.station.specs.Requests.{request_of};
-ghost use Rattle.station.specs.Steps.{Came, when_label, answered, answer_by, work_in, answer_bytes, work_bytes};
-ghost use Rattle.station.specs.Views.{owed_by};
+ghost use Rattle.jobgroups.specs.Commands.{seen_command};
+ghost use Rattle.label.specs.Actions.{asked_by};
+ghost use Rattle.station.specs.Requests.{on_label, request_of};
+ghost use Rattle.station.specs.Steps.{Came, when_idle, answered, answer_by, work_in, answer_bytes, work_bytes};
 
-use crate::blame::{At, Blame};
+use crate::blame::{Blame, PlacedFault};
+use crate::machine::Machine;
 use crate::mode::Mode;
-use crate::request::Asked;
 use crate::state::Station;
 use crate::status::tell;
 use crate::steps::refused;
 use faults::Refusal;
-use jobgroups::command::Command;
+use jobgroups::command::{Command, LabelCommand, StationCommand};
+use jobvalues::numbers::{four_digit_number, two_digit_number};
 use printers::printer::Printer;
 use stores::store::FormStore;
 use texts::rule::CountingRule;
 
 impl<S: FormStore, P: Printer, R1: CountingRule, R2: CountingRule> Station<S, P, R1, R2> {
     // A label command done on the label.
-    fn act(&mut self, command: &Command<'_>, at: usize) -> Result<(), Blame>
-        ensures { Came result (when_label (seen S.FormStore P.Printer R1.CountingRule R2.CountingRule self.old) (action_of (plain_of command.now)) at) (seen S.FormStore P.Printer R1.CountingRule R2.CountingRule self.old) (seen S.FormStore P.Printer R1.CountingRule R2.CountingRule self.new) }
+    fn act(&mut self, command: &LabelCommand<'_>, at: usize) -> Result<(), Blame>
+        ensures step { let v = ⟦<Self as Machine>⟧.view self.old in
+            let came = when_idle v (on_label (asked_by command.now)) at in
+            Came result came v (⟦<Self as Machine>⟧.view self.new) }
+        ensures printer { self.new.printer ≡ self.old.printer }
     {
-        self.label.act(command).map_err(|why| At::in_job(at, why))?;
+        self.label
+            .act(command)
+            .map_err(|why| PlacedFault::in_job(at, why))?;
         Ok(())
     }
 
-    // The labels that are owed.
-    fn owed(&self) -> u16
-        ensures { result ≡ owed_by (seen S.FormStore P.Printer R1.CountingRule R2.CountingRule self.now) }
-    {
-        match self.mode {
-            Mode::Idle | Mode::Saving(_) => 0,
-            Mode::Owing(issue) => issue.left,
-        }
-    }
-
-    // One match on what the station is doing together with what is asked accepts, drafts or refuses.
+    // One match on what the station is doing together with the command accepts, drafts or refuses.
     pub(crate) fn answer(
         &mut self,
         command: &Command<'_>,
@@ -49,38 +43,49 @@ impl<S: FormStore, P: Printer, R1: CountingRule, R2: CountingRule> Station<S, P,
     ) -> Result<(), Blame>
         requires told { answer_bytes ≤ length answer.old }
         requires room { work_bytes ≤ length work.old }
-        ensures step { Came result (answered (seen S.FormStore P.Printer R1.CountingRule R2.CountingRule self.old) (request_of (plain_of command.now)) whole.now at) (seen S.FormStore P.Printer R1.CountingRule R2.CountingRule self.old) (seen S.FormStore P.Printer R1.CountingRule R2.CountingRule self.new) }
-        ensures answer { answer.new ≡ answer_by (request_of (plain_of command.now)) (seen S.FormStore P.Printer R1.CountingRule R2.CountingRule self.old) answer.old }
-        ensures work { work.new ≡ work_in (seen S.FormStore P.Printer R1.CountingRule R2.CountingRule self.old).doing (request_of (plain_of command.now)) (S.FormStore.forms self.old.store) work.old }
+        ensures step { let v = ⟦<Self as Machine>⟧.view self.old in
+            let r = request_of (seen_command command.now) in
+            Came result (answered v r whole.now at) v (⟦<Self as Machine>⟧.view self.new) }
+        ensures answer { let v = ⟦<Self as Machine>⟧.view self.old in
+            answer.new ≡ answer_by (request_of (seen_command command.now)) v answer.old }
+        ensures work { let v = ⟦<Self as Machine>⟧.view self.old in
+            work.new ≡ work_in v.mode (request_of (seen_command command.now)) v.forms work.old }
+        ensures printer { self.new.printer ≡ self.old.printer }
     {
-        match (&mut self.mode, Asked::from(command)) {
-            (_, Asked::TellStatus) => {
-                tell(self.owed(), self.printer.left(), answer);
+        match (&mut self.mode, command) {
+            (_, Command::Station(StationCommand::WriteStatus)) => {
+                tell(self.mode.owed(), self.printer.left(), answer);
                 Ok(())
             }
-            (_, Asked::Reset) => {
+            (_, Command::Station(StationCommand::Reset)) => {
                 self.reset();
                 Ok(())
             }
             (Mode::Owing(_), _) => refused(Refusal::LabelsOwed, at),
-            (Mode::Saving(draft), Asked::OnLabel) => draft.save(whole, at),
-            (Mode::Saving(draft), Asked::EndSaving) => {
+            (Mode::Saving(draft), Command::Label(_)) => draft.save(whole, at),
+            (Mode::Saving(draft), Command::Station(StationCommand::EndSaving)) => {
                 self.store
                     .put(draft.number, draft.commands.as_slice())
-                    .map_err(|why| At::in_job(at, why))?;
+                    .map_err(|why| PlacedFault::in_job(at, why))?;
                 self.mode = Mode::Idle;
                 Ok(())
             }
-            (Mode::Saving(_), _) => refused(Refusal::NotWhileSaving, at),
-            (Mode::Idle, Asked::OnLabel) => self.act(command, at),
-            (Mode::Idle, Asked::Issue(labels)) => self.order(labels, at),
-            (Mode::Idle, Asked::BeginSaving(form)) => {
-                self.begin_saving(form);
+            (Mode::Saving(_), Command::Station(_)) => refused(Refusal::NotWhileSaving, at),
+            (Mode::Idle, Command::Label(command)) => self.act(command, at),
+            (Mode::Idle, Command::Station(StationCommand::PrintIssue(issue))) => {
+                self.order(four_digit_number(issue.count.labels.bytes), at)
+            }
+            (Mode::Idle, Command::Station(StationCommand::BeginSaving(form))) => {
+                self.begin_saving(two_digit_number(form.form.bytes));
                 Ok(())
             }
-            (Mode::Idle, Asked::EndSaving) => refused(Refusal::NotSaving, at),
-            (Mode::Idle, Asked::Recall(form)) => self.recall(form, at, work),
-            (Mode::Idle, Asked::EmptyStore) => {
+            (Mode::Idle, Command::Station(StationCommand::EndSaving)) => {
+                refused(Refusal::NotSaving, at)
+            }
+            (Mode::Idle, Command::Station(StationCommand::RecallForm(recall))) => {
+                self.recall(two_digit_number(recall.form.form.bytes), at, work)
+            }
+            (Mode::Idle, Command::Station(StationCommand::EmptyStore)) => {
                 self.store.empty();
                 Ok(())
             }

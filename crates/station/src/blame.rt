@@ -10,20 +10,20 @@ pub struct Blame {
     pub place: usize,
 }
 
-// A fault of a lower layer, with the form and the place of the command that it came at.
+// A fault of a lower layer, with the form and the place of the command that it came at. It turns into a blame.
 #[derive(Clone, Copy)]
-pub struct At<E> {
+pub struct PlacedFault<E> {
     pub form: u8,
     pub place: usize,
     pub why: E,
 }
 
-impl<E: Drop> At<E> {
+impl<E: Drop> PlacedFault<E> {
     // At a command of the job itself.
-    pub(crate) fn in_job(place: usize, why: E) -> At<E>
+    pub(crate) fn in_job(place: usize, why: E) -> PlacedFault<E>
         ensures { result ≡ record { form = 0; place = place; why = why } }
     {
-        At {
+        PlacedFault {
             form: 0,
             place,
             why,
@@ -31,4 +31,16 @@ impl<E: Drop> At<E> {
     }
 }
 
-pub mod placing;
+impl<E: Into<Refusal>> From<PlacedFault<E>> for Blame {
+    ghost from_gives = { λ e r.
+        (E.converts e.why r.refusal) × ((r.form ≡ e.form) × (r.place ≡ e.place)) };
+
+    fn from(e: PlacedFault<E>) -> Blame {
+        let PlacedFault { form, place, why } = e;
+        Blame {
+            refusal: why.into(),
+            form,
+            place,
+        }
+    }
+}

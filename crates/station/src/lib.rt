@@ -4,10 +4,10 @@
 mod answering;
 mod blame;
 pub mod calls;
+pub mod machine;
 mod mode;
-mod printing;
 mod recall;
-mod request;
+pub mod sizes;
 pub mod state;
 mod status;
 mod steps;

@@ -26,3 +26,5 @@ pub enum Mode {
     Saving(Draft),
     Owing(Issue),
 }
+
+mod owing;

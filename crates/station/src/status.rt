@@ -3,10 +3,8 @@ ghost use Rattle.std.specs.Prelude.{◌≡◌, ◌≤◌, ◌++◌, length, drop
 ghost use Rattle.station.specs.Status.{answer_for, status_characters};
 ghost use Rattle.station.specs.Steps.{answer_bytes};
 
+use crate::sizes::ANSWER_BYTES;
 use tagline::digits::digits;
-
-// The bytes of a status answer.
-pub const ANSWER_BYTES: usize = 13;
 
 // Nothing owed; labels owed and no stock left; labels owed.
 fn characters(owed: u16, left: u64) -> [u8; 2]

@@ -1,16 +1,17 @@
 // What a station does at each request.
 ghost use Rattle.std.specs.Prelude.{◌≡◌, ◌≤◌, [], length, Err};
 ghost use Rattle.station.specs.Drafts.{Saved};
-ghost use Rattle.station.specs.Seen.{seen};
-ghost use Rattle.station.specs.Steps.{Came, ordering, drafted, filed, recalled, work_bytes};
-ghost use Rattle.station.specs.Views.{with_doing, with_label, with_forms, saving, idle};
-ghost use Rattle.stores.specs.Forms.{put_answer, emptied, filled_with};
+ghost use Rattle.station.specs.Steps.{Came, ordering, recalled, work_bytes};
+ghost use Rattle.station.specs.Views.{with_mode, with_label, saving, idle};
+ghost use Rattle.stores.specs.Forms.{filled_with};
 ghost use Rattle.station.specs.declared.mode.Mode.TheVariants.{Saving};
 ghost use Rattle.label.specs.Labels.{new_label};
 
-use crate::blame::{At, Blame};
+use crate::blame::{Blame, PlacedFault};
+use crate::machine::Machine;
 use crate::mode::{Draft, Issue, Mode};
 use crate::recall::do_all;
+use crate::sizes::MOST_ORDERED;
 use crate::state::Station;
 use faults::Refusal;
 use fixedvec::FixedVec;
@@ -20,14 +21,11 @@ use stores::answers::StoreFault;
 use stores::store::FormStore;
 use texts::rule::CountingRule;
 
-// Labels that may be ordered since a station was made.
-const MOST_ORDERED: u64 = 100_000_000;
-
 // A refusal of the command at a place, outside any form.
 pub(crate) fn refused(refusal: Refusal, place: usize) -> Result<(), Blame>
     ensures { result ≡ Err (record { refusal = refusal; form = 0; place = place }) }
 {
-    Err(At::in_job(place, refusal).into())
+    Err(PlacedFault::in_job(place, refusal).into())
 }
 
 impl Draft {
@@ -44,13 +42,15 @@ impl Draft {
 impl<S: FormStore, P: Printer, R1: CountingRule, R2: CountingRule> Station<S, P, R1, R2> {
     // An issue of labels, unless it would be more than a station may be ordered.
     pub(crate) fn order(&mut self, labels: u16, at: usize) -> Result<(), Blame>
-        ensures { Came result (ordering (seen S.FormStore P.Printer R1.CountingRule R2.CountingRule self.old) labels at) (seen S.FormStore P.Printer R1.CountingRule R2.CountingRule self.old) (seen S.FormStore P.Printer R1.CountingRule R2.CountingRule self.new) }
+        ensures step { let v = ⟦<Self as Machine>⟧.view self.old in
+            Came result (ordering v labels at) v (⟦<Self as Machine>⟧.view self.new) }
+        ensures printer { self.new.printer ≡ self.old.printer }
     {
         let ordered = self
             .ordered
             .checked_add(u64::from(labels))
             .filter(|n| *n <= MOST_ORDERED)
-            .ok_or(At::in_job(at, Refusal::TooManyOrdered))?;
+            .ok_or(PlacedFault::in_job(at, Refusal::TooManyOrdered))?;
         self.ordered = ordered;
         self.mode = if labels == 0 {
             Mode::Idle
@@ -65,7 +65,9 @@ impl<S: FormStore, P: Printer, R1: CountingRule, R2: CountingRule> Station<S, P,
 
     // Begins to save a form, with an empty draft.
     pub(crate) fn begin_saving(&mut self, form: u8)
-        ensures { seen S.FormStore P.Printer R1.CountingRule R2.CountingRule self.new ≡ with_doing (saving form []) (seen S.FormStore P.Printer R1.CountingRule R2.CountingRule self.old) }
+        ensures step { let v = ⟦<Self as Machine>⟧.view self.old in
+            ⟦<Self as Machine>⟧.view self.new ≡ with_mode (saving form []) v }
+        ensures printer { self.new.printer ≡ self.old.printer }
     {
         self.mode = Mode::Saving(Draft {
             number: form,
@@ -75,7 +77,9 @@ impl<S: FormStore, P: Printer, R1: CountingRule, R2: CountingRule> Station<S, P,
 
     // Drops label, draft and labels owed.
     pub(crate) fn reset(&mut self)
-        ensures { seen S.FormStore P.Printer R1.CountingRule R2.CountingRule self.new ≡ with_doing idle (with_label new_label (seen S.FormStore P.Printer R1.CountingRule R2.CountingRule self.old)) }
+        ensures step { let v = ⟦<Self as Machine>⟧.view self.old in
+            ⟦<Self as Machine>⟧.view self.new ≡ with_mode idle (with_label new_label v) }
+        ensures printer { self.new.printer ≡ self.old.printer }
     {
         self.mode = Mode::Idle;
         self.label = Label::new();
@@ -84,10 +88,14 @@ impl<S: FormStore, P: Printer, R1: CountingRule, R2: CountingRule> Station<S, P,
     // A form's commands, copied to the front of the work buffer, all or none.
     pub(crate) fn recall(&mut self, number: u8, at: usize, work: &mut [u8]) -> Result<(), Blame>
         requires { work_bytes ≤ length work.old }
-        ensures step { Came result (recalled (seen S.FormStore P.Printer R1.CountingRule R2.CountingRule self.old) number at ((S.FormStore.forms self.old.store).at number)) (seen S.FormStore P.Printer R1.CountingRule R2.CountingRule self.old) (seen S.FormStore P.Printer R1.CountingRule R2.CountingRule self.new) }
-        ensures work { work.new ≡ filled_with ((S.FormStore.forms self.old.store).at number) work.old }
+        ensures step { let v = ⟦<Self as Machine>⟧.view self.old in
+            let came = recalled v number at (v.forms.at number) in
+            Came result came v (⟦<Self as Machine>⟧.view self.new) }
+        ensures work { let v = ⟦<Self as Machine>⟧.view self.old in
+            work.new ≡ filled_with (v.forms.at number) work.old }
+        ensures printer { self.new.printer ≡ self.old.printer }
     {
-        let n = self.store.read(number, work).map_err(|_| At {
+        let n = self.store.read(number, work).map_err(|_| PlacedFault {
             form: number,
             place: at,
             why: StoreFault::NoForm,

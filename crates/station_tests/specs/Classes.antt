@@ -46,7 +46,8 @@ module _ (is : ℕ → Bool) (r : ℕ) (value byte : ℕ → ℕ) (c : Class is 
       (cases_Bool (is (slice_index t p)))
 
   -- what is written at a place is of the class if what stood there was
-  same_at : (t : List ℕ) (p v : ℕ) → v < (class_wheels is r value byte).radix t p → is ((class_wheels is r value byte).byte t p v) ≡ is (slice_index t p)
+  same_at : (t : List ℕ) (p v : ℕ) → v < (class_wheels is r value byte).radix t p
+      → is ((class_wheels is r value byte).byte t p v) ≡ is (slice_index t p)
   same_at t p v low =
       ⊎_elim (λ x. ap is x.2 ∙ c.within v x.1 ∙ sym x.0) (λ x. ap is x.2) (ways t p v low)
 
@@ -55,21 +56,25 @@ module _ (is : ℕ → Bool) (r : ℕ) (value byte : ℕ → ℕ) (c : Class is 
   same t p v lt low q =
       let b = (class_wheels is r value byte).byte t p v in
       ⊎_elim
-      (λ e. ap (λ k. is (slice_index (slice_set t p b) k)) e ∙ ap is (get_or-set_same t p b 0 lt) ∙ same_at t p v low ∙ sym (ap (λ k. is (slice_index t k)) e))
+      (λ e. ap (λ k. is (slice_index (slice_set t p b) k)) e ∙ ap is (get_or-set_same t p b 0 lt) ∙ same_at t p v low
+      ∙ sym (ap (λ k. is (slice_index t k)) e))
       (λ ne. ap is (get_or-set_other t p q b 0 ne))
       (cases_eq q p)
 
-  gives : (t : List ℕ) (p v : ℕ) → p < length t → v < (class_wheels is r value byte).radix t p → (class_wheels is r value byte).value (slice_set t p ((class_wheels is r value byte).byte t p v)) p ≡ v
+  gives : (t : List ℕ) (p v : ℕ) → p < length t → v < (class_wheels is r value byte).radix t p
+      → (class_wheels is r value byte).value (slice_set t p ((class_wheels is r value byte).byte t p v)) p ≡ v
   gives t p v lt low =
       let u = set t p ((class_wheels is r value byte).byte t p v) in
       let at = get_or-set_same t p ((class_wheels is r value byte).byte t p v) 0 lt in
       ⊎_elim
-      (λ x. cond-true (is (slice_index u p)) (value (slice_index u p)) 0 (same t p v lt low p ∙ x.0) ∙ ap value (at ∙ x.2) ∙ c.gives v x.1)
+      (λ x. cond-true (is (slice_index u p)) (value (slice_index u p)) 0 (same t p v lt low p ∙ x.0)
+      ∙ ap value (at ∙ x.2) ∙ c.gives v x.1)
       (λ x. cond-false (is (slice_index u p)) (value (slice_index u p)) 0 (same t p v lt low p ∙ x.0) ∙ sym x.1)
       (ways t p v low)
 
   spares : (t : List ℕ) (p v : ℕ) → p < length t → v < (class_wheels is r value byte).radix t p → (q : ℕ) → (q ≢ p)
-      → (class_wheels is r value byte).value (slice_set t p ((class_wheels is r value byte).byte t p v)) q ≡ (class_wheels is r value byte).value t q
+      → (class_wheels is r value byte).value (slice_set t p ((class_wheels is r value byte).byte t p v)) q
+      ≡ (class_wheels is r value byte).value t q
   spares t p v lt low q ne =
       ap (λ b. cond (is b) (value b) 0) (get_or-set_other t p q ((class_wheels is r value byte).byte t p v) 0 ne)
 
@@ -89,8 +94,12 @@ module _ (is : ℕ → Bool) (r : ℕ) (value byte : ℕ → ℕ) (c : Class is 
         gives = λ t h p v lt low. gives t p v lt low;
         keeps = λ t h p v lt low q inside. ap (λ b. cond b r 1) (same t p v lt low q);
         spares = λ t h p v lt low q inside ne. spares t p v lt low q ne;
-        digits = λ t h p v lt low d. ⊎_elim (λ x. ap is_digit x.2 ∙ c.digits (slice_index t p) v x.0 x.1 d) (λ x. ap is_digit x.2 ∙ d) (ways t p v low);
-        capitals = λ t h p v lt low d. ⊎_elim (λ x. ap is_capital x.2 ∙ c.capitals (slice_index t p) v x.0 x.1 d) (λ x. ap is_capital x.2 ∙ d) (ways t p v low);
+        digits = λ t h p v lt low d.
+            ⊎_elim (λ x. ap is_digit x.2 ∙ c.digits (slice_index t p) v x.0 x.1 d) (λ x. ap is_digit x.2 ∙ d)
+            (ways t p v low);
+        capitals = λ t h p v lt low d.
+            ⊎_elim (λ x. ap is_capital x.2 ∙ c.capitals (slice_index t p) v x.0 x.1 d) (λ x. ap is_capital x.2 ∙ d)
+            (ways t p v low);
         fixed = λ t h p lt d k. cond-false (is (slice_index t p)) r 1 (c.fixed (slice_index t p) d k);
       }
 

@@ -4,6 +4,7 @@ use crate::script::{OUT_OF_STOCK, Step};
 use crate::watched::{Watched, over, plays};
 use jobparts::bytes::first;
 use printers::roll::Roll;
+use station::machine::Machine;
 use std::process::Abort;
 use std::test::Fail;
 use stores::packed::PackedStore;

@@ -10,7 +10,11 @@ mod forms;
 #[cfg(test)]
 mod jobs;
 #[cfg(test)]
+mod logs;
+#[cfg(test)]
 mod modes;
+#[cfg(test)]
+mod parts;
 #[cfg(test)]
 mod refusals;
 pub mod rules;

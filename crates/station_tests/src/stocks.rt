@@ -22,9 +22,9 @@ fn outside_the_limits(rt: HostRuntime) -> Result<(), Fail> {
         Some(unplaced(Refusal::ShortBuffer))
     );
     assert!(rt; Roll::new(1_000_000).is_ok());
-    let short = vec![in rt.alloc(); 0_u8; 1353]?;
+    let mut short = vec![in rt.alloc(); 0_u8; 1353]?;
     assert_eq!(rt;
-        Strip::new(short).err(),
+        Strip::new(&mut short).err(),
         Some(unplaced(Refusal::ShortBuffer))
     );
     Ok(())
@@ -88,9 +88,12 @@ const USED_STRIP: &[Step] = &[
 
 #[test]
 fn a_used_strip(rt: HostRuntime) -> Result<(), Fail> {
-    let mut strip = Strip::new(vec![in rt.alloc(); 0_u8; 1374]?)?;
+    let mut bytes = vec![in rt.alloc(); 0_u8; 1374]?;
+    let mut strip = Strip::new(&mut bytes)?;
     strip.take(b"0123456789")?;
-    over(rt.alloc(), PackedStore::new(), strip).plays(&rt, USED_STRIP)
+    over(rt.alloc(), PackedStore::new(), strip).plays(&rt, USED_STRIP)?;
+    assert!(rt; bytes.starts_with(b"0004,0009\n0005,0009\n0006,0009\n"));
+    Ok(())
 }
 
 // A store of at most 20 bytes: forms are recalled as they were put last.
@@ -129,7 +132,8 @@ fn keeps<S: FormStore + Drop>(
     store: S,
     steps: &[Step],
 ) -> Result<(), Fail> {
-    over(heap, store, Strip::new(vec![in heap; 0_u8; 1354]?)?).plays(rt, steps)
+    let mut bytes = vec![in heap; 0_u8; 1354]?;
+    over(heap, store, Strip::new(&mut bytes)?).plays(rt, steps)
 }
 
 #[test]

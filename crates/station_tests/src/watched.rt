@@ -6,6 +6,7 @@ use jobparts::bytes::{first, rest_at};
 use limits::sizes::PICTURE_BYTES;
 use printers::printer::Printer;
 use printers::roll::Roll;
+use station::machine::Machine;
 use station::state::Station;
 use std::alloc::Global;
 use std::process::Abort;

@@ -11,6 +11,7 @@
 --   vacant l t      no form at all, with a longest form of l bytes and a total of t
 --   lowered m f     the same forms under a total of at most m
 --   from_one g      forms that are counted from 1, where g counts them from 0
+--   forms_from_one g l t   a store with these forms, a longest form of l bytes and a total of t
 use Rattle.std.specs.Prelude.{◌≡◌, ℕ, zero, suc, ◌+◌, ◌≤◌, Bool, false, cond, List, ◌++◌, length, drop, Some, None, Ok, Err, Option, Result, ◌==◌, nat_le}
 use Rattle.limits.specs.Bytes.{between}
 use Rattle.limits.specs.Limits.{last_form, longest_form, largest_total}
@@ -59,18 +60,19 @@ filled_with None buffer = buffer
 
 abbrev pub put_answer : Forms → ℕ → ℕ → Result (Unit {0}) StoreFault
 put_answer f n long =
+    let has_room = nat_le (others f n + long) f.total in
     cond (numbered n)
-    (cond (nat_le long f.longest) (cond (nat_le (others f n + long) f.total) (Ok tt) (Err Full)) (Err TooLong))
+    (cond (nat_le long f.longest) (cond has_room (Ok tt) (Err Full)) (Err TooLong))
     (Err TooLong)
 
 abbrev pub stored : Forms → ℕ → List ℕ → Forms
-stored f n x = record { at = λ k. cond (k == n) (Some x) (f.at k); longest = f.longest; total = f.total }
+stored f n x = record f { at = λ k. cond (k == n) (Some x) (f.at k) }
 
 abbrev pub vacant : ℕ → ℕ → Forms
 vacant l t = record { at = λ k. None; longest = l; total = t }
 
 abbrev pub emptied : Forms → Forms
-emptied f = vacant f.longest f.total
+emptied f = record f { at = λ k. None }
 
 -- a refused put leaves the forms as they were
 abbrev pub after_put : Result (Unit {0}) StoreFault → Forms → ℕ → List ℕ → Forms
@@ -81,6 +83,8 @@ unfoldable pub from_one : (ℕ → Option (List ℕ)) → ℕ → Option (List �
 from_one g zero = None
 from_one g (suc k) = g k
 
--- the same forms under a total of at most m
+abbrev pub forms_from_one : (ℕ → Option (List ℕ)) → ℕ → ℕ → Forms
+forms_from_one g l t = record { at = from_one g; longest = l; total = t }
+
 abbrev pub lowered : ℕ → Forms → Forms
-lowered m f = record { at = f.at; longest = f.longest; total = cond (nat_le f.total m) f.total m }
+lowered m f = record f { total = cond (nat_le f.total m) f.total m }

@@ -7,7 +7,8 @@
 --   packed_forms      the meaning of a packed store
 --   spliced           the bytes once a form stands between start and end, with what came behind moved up to it
 use Rattle.std.specs.Prelude.{ℕ, zero, suc, ◌+◌, ◌-◌, List, [], ◌∷◌, ◌++◌, length, take, drop, Some, None, Option, slice_index_or, slice_range, unwrap_or}
-use Rattle.stores.specs.Forms.{Forms, from_one}
+use Rattle.stores.specs.Forms.{Forms, forms_from_one}
+use Rattle.stores.specs.declared.packed.TheConstants.{LONGEST, TOTAL}
 
 abbrev pub size_in : Option ℕ → ℕ
 size_in l = unwrap_or l 0
@@ -35,13 +36,14 @@ packed_at (l ∷ ls) b (suc k) = packed_at ls (drop (size_in l) b) k
 
 -- bytes of a form, and of all
 abbrev pub packed_longest : ℕ
-packed_longest = 1024
+packed_longest = LONGEST
 
 abbrev pub packed_total : ℕ
-packed_total = 8192
+packed_total = TOTAL
 
 abbrev pub packed_forms : List (Option ℕ) → List ℕ → Forms
-packed_forms ls b = record { at = from_one (packed_at ls b); longest = packed_longest; total = packed_total }
+packed_forms ls b = forms_from_one (packed_at ls b) packed_longest packed_total
 
 abbrev pub spliced : List ℕ → ℕ → ℕ → ℕ → List ℕ → List ℕ
-spliced b start end all x = take start b ++ (x ++ (slice_range b end all ++ drop (start + length x + (all - end)) b))
+spliced b start end all x =
+    take start b ++ (x ++ (slice_range b end all ++ drop (start + length x + (all - end)) b))

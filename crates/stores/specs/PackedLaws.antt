@@ -15,7 +15,8 @@ unfolding before
 before_more [] zero = refl
 before_more [] (suc k) = refl
 before_more (l ∷ ls) zero = sym (zero-add (size_in l + 0)) ∙ omega arith
-before_more (l ∷ ls) (suc k) = ap (λ (s : ℕ). size_in l + s) (before_more ls k) ∙ sym (add_assoc (size_in l) (before ls k) (size_at ls k))
+before_more (l ∷ ls) (suc k) =
+    ap (λ (s : ℕ). size_in l + s) (before_more ls k) ∙ sym (add_assoc (size_in l) (before ls k) (size_at ls k))
 
 pub before_all : (ls : List (Option ℕ)) (k : ℕ) → length ls ≤ k → before ls k ≡ used ls
 unfolding before used
@@ -43,27 +44,33 @@ before_used [] (suc k) = refl
 before_used (l ∷ ls) (suc k) = ap (λ (s : ℕ). size_in l + s) (before_used ls k)
 
 pub used_front : (ls : List (Option ℕ)) (k : ℕ) → used (take k ls) + size_at ls k ≤ used ls
-used_front ls k = let is = before_used ls k in let more = before_more ls k in let most = before_most ls (suc k) in omega arith
+used_front ls k =
+    let is = before_used ls k in let more = before_more ls k in let most = before_most ls (suc k) in omega arith
 
-pub used_set : (ls : List (Option ℕ)) (n : ℕ) (o : Option ℕ) → n < length ls → used (slice_set ls n o) + size_at ls n ≡ used ls + size_in o
+pub used_set : (ls : List (Option ℕ)) (n : ℕ) (o : Option ℕ) → n < length ls
+    → used (slice_set ls n o) + size_at ls n ≡ used ls + size_in o
 used_set ls n o h = omega (arith, used_sum (slice_set ls n o), used_sum ls, sum_by-set size_in ls n o None h)
 
 -- equal fronts hold equal forms
 front_cut : (l : Option ℕ) (n : ℕ) (b b' : List ℕ) → size_in l ≤ n → take n b' ≡ take n b → cut l b' ≡ cut l b
-front_cut (Some s) n b b' h e = ap (λ (x : List ℕ). Some x) (sym (take-take s n b' h) ∙ ap (take s) e ∙ take-take s n b h)
+front_cut (Some s) n b b' h e =
+    ap (λ (x : List ℕ). Some x) (sym (take-take s n b' h) ∙ ap (take s) e ∙ take-take s n b h)
 front_cut None n b b' h e = refl
 
 front_drop : (s n : ℕ) (b b' : List ℕ) → take (s + n) b' ≡ take (s + n) b → take n (drop s b') ≡ take n (drop s b)
 front_drop s n b b' e = sym (drop-take s n b') ∙ ap (drop s) e ∙ drop-take s n b
 
-pub packed_same : (ls : List (Option ℕ)) (b b' : List ℕ) → take (used ls) b' ≡ take (used ls) b → (k : ℕ) → packed_at ls b' k ≡ packed_at ls b k
+pub packed_same : (ls : List (Option ℕ)) (b b' : List ℕ) → take (used ls) b' ≡ take (used ls) b → (k : ℕ)
+    → packed_at ls b' k ≡ packed_at ls b k
 unfolding used packed_at
 packed_same [] b b' e k = refl
 packed_same (l ∷ ls) b b' e zero = front_cut l (size_in l + used ls) b b' (omega arith) e
-packed_same (l ∷ ls) b b' e (suc k) = packed_same ls (drop (size_in l) b) (drop (size_in l) b') (front_drop (size_in l) (used ls) b b' e) k
+packed_same (l ∷ ls) b b' e (suc k) =
+    packed_same ls (drop (size_in l) b) (drop (size_in l) b') (front_drop (size_in l) (used ls) b b' e) k
 
 -- a form put in its place: the bytes before it and behind it are the old ones
-pub packed_put : (ls : List (Option ℕ)) (n rest : ℕ) (x b b' : List ℕ) → n < length ls → before ls n + (size_at ls n + rest) ≡ used ls
+pub packed_put : (ls : List (Option ℕ)) (n rest : ℕ) (x b b' : List ℕ) → n < length ls
+    → before ls n + (size_at ls n + rest) ≡ used ls
     → take (before ls n) b' ≡ take (before ls n) b → take (length x) (drop (before ls n) b') ≡ x
     → take rest (drop (before ls n + length x) b') ≡ take rest (drop (before ls n + size_at ls n) b)
     → (k : ℕ) → packed_at (slice_set ls n (Some (length x))) b' k ≡ cond (k == n) (Some x) (packed_at ls b k)
@@ -73,10 +80,12 @@ packed_put (l ∷ ls) zero rest x b b' h s e₁ e₂ e₃ zero = ap (λ (y : Lis
 packed_put (l ∷ ls) zero rest x b b' h s e₁ e₂ e₃ (suc k) =
     let z : rest ≡ used ls = omega arith in
     let f : take (used ls) (drop (length x) b') ≡ take (used ls) (drop (size_in l) b) =
-    ap (λ (r : ℕ). take r (drop (length x) b')) (sym z) ∙ ap (λ (i : ℕ). take rest (drop i b')) (sym (zero-add (length x))) ∙ e₃
+    ap (λ (r : ℕ). take r (drop (length x) b')) (sym z)
+    ∙ ap (λ (i : ℕ). take rest (drop i b')) (sym (zero-add (length x))) ∙ e₃
     ∙ ap (λ (i : ℕ). take rest (drop i b)) (zero-add (size_in l)) ∙ ap (λ (r : ℕ). take r (drop (size_in l) b)) z in
     rw (eqb-suc-zero k) (packed_same ls (drop (size_in l) b) (drop (length x) b') f k)
-packed_put (l ∷ ls) (suc n) rest x b b' h s e₁ e₂ e₃ zero = rw (eqb-zero-suc n) (front_cut l (size_in l + before ls n) b b' (omega arith) e₁)
+packed_put (l ∷ ls) (suc n) rest x b b' h s e₁ e₂ e₃ zero =
+    rw (eqb-zero-suc n) (front_cut l (size_in l + before ls n) b b' (omega arith) e₁)
 packed_put (l ∷ ls) (suc n) rest x b b' h s e₁ e₂ e₃ (suc k) =
     let i = size_in l in
     let j = before ls n in
@@ -84,15 +93,19 @@ packed_put (l ∷ ls) (suc n) rest x b b' h s e₁ e₂ e₃ (suc k) =
     (front_drop i j b b' e₁)
     (ap (take (length x)) (drop-drop j i b') ∙ e₂)
     (ap (take rest) (drop-drop (j + length x) i b' ∙ ap (λ (m : ℕ). drop m b') (sym (add_assoc i j (length x)))) ∙ e₃
-    ∙ sym (ap (take rest) (drop-drop (j + size_at ls n) i b ∙ ap (λ (m : ℕ). drop m b) (sym (add_assoc i j (size_at ls n)))))) k)
+    ∙ sym (ap (take rest) (drop-drop (j + size_at ls n) i b
+    ∙ ap (λ (m : ℕ). drop m b) (sym (add_assoc i j (size_at ls n)))))) k)
 
 -- the form of an entry
-pub packed_at_lem : (ls : List (Option ℕ)) (b : List ℕ) (k : ℕ) → packed_at ls b k ≡ cut (slice_index_or ls k None) (drop (before ls k) b)
+pub packed_at_cut : (ls : List (Option ℕ)) (b : List ℕ) (k : ℕ)
+    → packed_at ls b k ≡ cut (slice_index_or ls k None) (drop (before ls k) b)
 unfolding before packed_at
-packed_at_lem [] b zero = refl
-packed_at_lem [] b (suc k) = refl
-packed_at_lem (l ∷ ls) b zero = refl
-packed_at_lem (l ∷ ls) b (suc k) = packed_at_lem ls (drop (size_in l) b) k ∙ ap (cut (slice_index_or ls k None)) (drop-drop (before ls k) (size_in l) b)
+packed_at_cut [] b zero = refl
+packed_at_cut [] b (suc k) = refl
+packed_at_cut (l ∷ ls) b zero = refl
+packed_at_cut (l ∷ ls) b (suc k) =
+    packed_at_cut ls (drop (size_in l) b) k
+    ∙ ap (cut (slice_index_or ls k None)) (drop-drop (before ls k) (size_in l) b)
 
 pub packed_past : (ls : List (Option ℕ)) (b : List ℕ) (k : ℕ) → length ls ≤ k → packed_at ls b k ≡ None
 unfolding packed_at
@@ -104,7 +117,8 @@ cut_size : (l : Option ℕ) (b : List ℕ) → size_in l ≤ length b → size_o
 cut_size (Some s) b h = simp length-take (omega arith)
 cut_size None b h = refl
 
-pub packed_size : (ls : List (Option ℕ)) (b : List ℕ) → used ls ≤ length b → (k : ℕ) → size_of (packed_at ls b k) ≡ size_at ls k
+pub packed_size : (ls : List (Option ℕ)) (b : List ℕ) → used ls ≤ length b → (k : ℕ)
+    → size_of (packed_at ls b k) ≡ size_at ls k
 unfolding used packed_at
 packed_size [] b h zero = refl
 packed_size [] b h (suc k) = refl
@@ -118,7 +132,8 @@ packed_none (suc m) b zero = refl
 packed_none (suc m) b (suc k) = packed_none m b k
 
 -- what the other forms have is all but what the form has
-pub packed_others : (ls : List (Option ℕ)) (b : List ℕ) → used ls ≤ length b → (m k : ℕ) → others_to (from_one (packed_at ls b)) (suc m) k + cond (nat_le (suc m) k) (size_at ls m) 0 ≡ before ls k
+pub packed_others : (ls : List (Option ℕ)) (b : List ℕ) → used ls ≤ length b → (m k : ℕ)
+    → others_to (from_one (packed_at ls b)) (suc m) k + cond (nat_le (suc m) k) (size_at ls m) 0 ≡ before ls k
 unfolding others_to from_one before
 packed_others ls b h m zero = grind (arith, nat_tests)
 packed_others ls b h m (suc k) =
@@ -127,8 +142,11 @@ packed_others ls b h m (suc k) =
     let more = before_more ls k in
     go (suc k == suc m) refl rest size more
   where
-    go : (t : Bool) → (suc k == suc m) ≡ t → others_to (from_one (packed_at ls b)) (suc m) k + cond (nat_le (suc m) k) (size_at ls m) 0 ≡ before ls k → size_of (packed_at ls b k) ≡ size_at ls k → before ls (suc k) ≡ before ls k + size_at ls k
-        → others_to (from_one (packed_at ls b)) (suc m) k + cond t 0 (size_of (packed_at ls b k)) + cond (nat_le (suc m) (suc k)) (size_at ls m) 0 ≡ before ls (suc k)
+    go : (t : Bool) → (suc k == suc m) ≡ t
+        → others_to (from_one (packed_at ls b)) (suc m) k + cond (nat_le (suc m) k) (size_at ls m) 0 ≡ before ls k
+        → size_of (packed_at ls b k) ≡ size_at ls k → before ls (suc k) ≡ before ls k + size_at ls k
+        → others_to (from_one (packed_at ls b)) (suc m) k + cond t 0 (size_of (packed_at ls b k))
+        + cond (nat_le (suc m) (suc k)) (size_at ls m) 0 ≡ before ls (suc k)
     go true e rest size more =
         let same : k ≡ m = grind (arith, nat_tests) in
         let at = ap (size_at ls) same in

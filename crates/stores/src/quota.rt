@@ -4,10 +4,11 @@ ghost use Rattle.stores.specs.Forms.{lowered, others, size_of};
 ghost use Rattle.std.proofs.Common.{rules};
 
 use crate::answers::{LoadFault, StoreFault};
-use crate::parts::admitted;
+use crate::parts::Number;
 use crate::store::FormStore;
 use limits::sizes::LAST_FORM;
 
+/// Forms that have more bytes than the figure already stay and are read: only puts are judged by it.
 #[derive(Drop)]
 pub struct Quota<S> {
     below: S,
@@ -15,7 +16,7 @@ pub struct Quota<S> {
 }
 
 impl<S: FormStore> Quota<S> {
-    // The store below, with a total of at most `figure` bytes.
+    /// The store below, with a total of at most `figure` bytes.
     pub fn new(below: S, figure: usize) -> Quota<S>
         ensures store { result.below ≡ below }
         ensures figure { result.figure ≡ figure }
@@ -23,7 +24,7 @@ impl<S: FormStore> Quota<S> {
         Quota { below, figure }
     }
 
-    // Takes the layer off.
+    /// Takes the layer off.
     pub fn into_below(self) -> S
         ensures { result ≡ self.below }
     {
@@ -63,11 +64,11 @@ impl<S: FormStore> FormStore for Quota<S> {
         self.below.longest()
     }
 
-    // Too long comes before full, so the length is tested here as well as below.
+    // Too long is told before full.
     #[tactic(auto, using(crate::specs::FormLaws::others_least))]
     fn put(&mut self, number: u8, form: &[u8]) -> Result<(), StoreFault> {
-        admitted(number, form.len(), self.below.longest())?;
         if others_of(&self.below, number) + form.len() > self.figure {
+            Number::to_put(number, form.len(), self.below.longest())?;
             return Err(StoreFault::Full);
         }
         self.below.put(number, form)

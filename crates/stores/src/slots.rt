@@ -1,24 +1,26 @@
 // The slot store: room for a form of its own under each number.
-ghost use Rattle.std.specs.Prelude.{◌≡◌, ◌+◌, ◌≤◌, length, Some, None, MatchOption};
+ghost use Rattle.std.specs.Prelude.{◌≡◌, ◌+◌, ◌≤◌, length, option_copied};
+ghost use Rattle.limits.specs.Limits.{last_form};
 ghost use Rattle.stores.specs.Forms.{vacant};
 ghost use Rattle.stores.specs.Slots.{slot_forms, slot_longest, slot_total};
 ghost use Rattle.stores.specs.SlotLaws.{slots_lawful};
 
 use crate::answers::{LoadFault, StoreFault};
-use crate::parts::{NUMBERS, Number, admitted, fill};
+use crate::parts::{NUMBERS, Number, fill};
 use crate::store::FormStore;
 use fixedvec::FixedVec;
 
 const SLOT_BYTES: usize = 512;
 
+/// Twenty slots of 512 bytes: as large as their total, so no put finds it full.
 #[derive(Clone, Copy)]
 pub struct SlotStore {
     slots: [Option<FixedVec<u8, SLOT_BYTES>>; NUMBERS],
-    ghost twenty: { length slots ≡ 20 },
+    ghost all: { length slots ≡ last_form },
 }
 
 impl SlotStore {
-    // A store with no form.
+    /// A store with no form.
     #[tactic(auto, using(crate::specs::SlotLaws::slots_vacant))]
     pub fn new() -> SlotStore
         ensures { slot_forms result.slots ≡ vacant slot_longest slot_total }
@@ -29,9 +31,9 @@ impl SlotStore {
     }
 
     // The form under a number.
-    #[tactic(auto, using(crate::specs::SlotLaws::slots_nowhere, crate::specs::SlotLaws::slots_held, crate::specs::SlotLaws::slots_empty))]
+    #[tactic(auto, using(crate::specs::SlotLaws::slots_at))]
     fn form(&self, number: u8) -> Option<&[u8]>
-        ensures { MatchOption result ((slot_forms self.now.slots).at number ≡ None) (λ x. (slot_forms self.now.slots).at number ≡ Some x.now) }
+        ensures { option_copied result ≡ (slot_forms self.now.slots).at number }
     {
         let place = Number::new(number)?.place();
         self.slots[place].as_ref().map(|form| form.as_slice())
@@ -41,26 +43,29 @@ impl SlotStore {
 impl FormStore for SlotStore {
     ghost forms = { λ s. slot_forms s.slots };
 
-    ghost lawful = { λ s. slots_lawful s.slots s.twenty };
+    ghost lawful = { λ s. slots_lawful s.slots s.all };
 
     fn size(&self, number: u8) -> Option<usize> {
         self.form(number).map(|form| form.len())
     }
 
     fn read(&mut self, number: u8, out: &mut [u8]) -> Result<usize, LoadFault> {
-        let form = self.form(number).ok_or(LoadFault::NoForm)?;
-        fill(form, out)
+        fill(self.form(number), out)
     }
 
     fn longest(&self) -> usize {
         SLOT_BYTES
     }
 
-    // All slots together are as large as the total, so there is room.
-    #[tactic(auto, using(crate::specs::SlotLaws::slots_room))]
+    #[tactic(auto, using(crate::specs::SlotLaws::slots_room, crate::specs::SlotLaws::slots_stored))]
     fn put(&mut self, number: u8, form: &[u8]) -> Result<(), StoreFault> {
-        let place = admitted(number, form.len(), SLOT_BYTES)?.place();
-        self.slots[place] = FixedVec::from_slice(0, form).ok();
+        let Some(number) = Number::new(number) else {
+            return Err(StoreFault::TooLong);
+        };
+        let Ok(form) = FixedVec::from_slice(0, form) else {
+            return Err(StoreFault::TooLong);
+        };
+        self.slots[number.place()] = Some(form);
         Ok(())
     }
 

@@ -1,11 +1,12 @@
-// The line of a finished tag: field by field, each written into what is left of the buffer. Every function here writes into the
-// front of what it is lent, and answers how many bytes it wrote.
+// The line of a finished tag: field by field, each written into what is left of the buffer. Every function here
+// writes into the front of what it is lent, and answers how many bytes it wrote.
 ghost use Rattle.std.specs.Prelude.{◌≡◌, ◌+◌, ◌*◌, ◌≤◌, ◌++◌, map, length, take, drop, Some};
 ghost use Rattle.limits.specs.Limits.{longest_line};
 ghost use Rattle.limits.specs.Limits.{text_fields, bar_fields};
 ghost use Rattle.fields.specs.Records.{seen_field};
 ghost use Rattle.fields.specs.Tables.{seen_fields};
-ghost use Rattle.tagline.specs.Line.{piece_head, piece, longest_piece, pieces_from, line_head, line_over, line_of, Put, Written};
+ghost use Rattle.texts.specs.Finishing.{Put};
+ghost use Rattle.tagline.specs.Line.{piece_head, piece, longest_piece, pieces_from, line_head, line_over, line_of, Written};
 
 use crate::digits::digits;
 use fields::field::Field;
@@ -54,15 +55,17 @@ fn put_piece(out: &mut [u8], letter: u8, number: usize, field: &Field) -> usize
     let Some(format) = field.format() else {
         return 0;
     };
-    let finished = text.finished(format.check, format.kept);
     let n = put(out, &piece_head(letter, number, format.x, format.y));
-    n + put(&mut out[n..], finished.as_bytes())
+    n + text
+        .write_finished(format.check, format.kept, &mut out[n..])
+        .unwrap_or(0)
 }
 
 // The pieces of all fields of a kind, each behind the one before.
 fn put_pieces(out: &mut [u8], letter: u8, fields: &[Field]) -> usize
     requires { longest_piece * length fields.now ≤ length out.old }
-    ensures written { Put (pieces_from letter 1 (map seen_field fields.now)) out.old out.new result }
+    ensures written { let pieces = pieces_from letter 1 (map seen_field fields.now) in
+        Put pieces out.old out.new result }
     ensures short { result ≤ longest_piece * length fields.now }
 {
     let mut n = 0;
@@ -76,7 +79,9 @@ fn put_line(out: &mut [u8], number: u16, size: u16, texts: &[Field], bars: &[Fie
     requires room { longest_line ≤ length out.old }
     requires texts { length texts.now ≡ text_fields }
     requires bars { length bars.now ≡ bar_fields }
-    ensures written { Put (line_over number size (map seen_field texts.now) (map seen_field bars.now)) out.old out.new result }
+    ensures written { let first = map seen_field texts.now in
+        let second = map seen_field bars.now in
+        Put (line_over number size first second) out.old out.new result }
     ensures short { result ≤ longest_line }
 {
     let mut n = put(out, &line_head(number, size));
@@ -85,10 +90,11 @@ fn put_line(out: &mut [u8], number: u16, size: u16, texts: &[Field], bars: &[Fie
     n + put(&mut out[n..], b"\n")
 }
 
-// Writes the line of a label's finished tag into the front of `work`, and answers its length; none where `work` could not
-// hold the longest line.
+/// Writes the line of a label's finished tag into the front of `work`, and answers its length; none where `work`
+/// could not hold the longest line.
 pub fn write_line(fields: &Fields, number: u16, size: u16, work: &mut [u8]) -> Option<usize>
-    ensures written { Written (line_of number size (seen_fields fields.now)) work.old work.new result }
+    ensures written { let line = line_of number size (seen_fields fields.now) in
+        Written line work.old work.new result }
     ensures short { length (line_of number size (seen_fields fields.now)) ≤ longest_line }
 {
     let texts = fields.texts();

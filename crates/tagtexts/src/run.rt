@@ -15,8 +15,10 @@ use texts::text::Text;
 
 // One tag: what is printed of the text, which then goes one step on.
 fn next_tag<R: CountingRule>(rule: &R, order: &Order, text: &mut Text) -> Finished
-    ensures tag { printed result ≡ finished_text order.now.check order.now.kept (contents text.old) }
-    ensures text { contents text.new ≡ turned (R.CountingRule.wheels rule.now) (contents text.old) order.now.step }
+    ensures tag { let order = order.now in
+        printed result ≡ finished_text order.check order.kept (contents text.old) }
+    ensures text { let wheels = R.CountingRule.wheels rule.now in
+        contents text.new ≡ turned wheels (contents text.old) order.now.step }
 {
     let tag = text.finished(order.check, order.kept);
     *text = text.turned(rule, order.step);

@@ -5,14 +5,18 @@ ghost use Rattle.tagview.specs.Doing.{Done};
 
 use faults::{Fault, Refusal};
 use job::read::read;
+use jobgroups::command::Command;
 use label::label::Label;
 
-// Does the command at a place, and answers the place behind it.
+// Does the label command at a place and passes over any other; answers the place behind it.
 pub(crate) fn act_at(label: &mut Label, job: &[u8], at: usize) -> Result<usize, Fault>
-    ensures { Done (answer_of (read_at job.now at)) (next_of (read_at job.now at)) at result (seen_label label.old) (seen_label label.new) }
+    ensures { let read = read_at job.now at in
+        Done (answer_of read) (next_of read) at result (seen_label label.old) (seen_label label.new) }
 {
     let (answer, next) = read(job, at);
-    let command = answer?;
+    let Command::Label(command) = answer? else {
+        return Ok(next);
+    };
     // Kept so: by map_err, what the fault says of the label stays open behind the closure.
     match label.act(&command) {
         Ok(()) => Ok(next),

@@ -5,3 +5,5 @@ pub mod Stepped
 pub mod Meant
 pub mod Carried
 pub mod Admitted
+pub mod Agreed
+pub mod Tables

@@ -34,7 +34,8 @@ stepped_none n s m e lt =
     ap (λ z. stepped n z m) (is_zero_lem s e) ∙ ap (λ k. k % m) same ∙ mod-eq_of_lt lt
 
 -- what is left of a step when its whole rounds of m are taken off
-pub stepped_is : (down : Bool) (n m by to rounds : ℕ) (s : ℤ) → by ≡ nat_abs s → lt_z s (pos 0) ≡ down → to < m → Rolls down m n by to rounds → stepped n s m ≡ to
+pub stepped_is : (down : Bool) (n m by to rounds : ℕ) (s : ℤ) → by ≡ nat_abs s → lt_z s (pos 0) ≡ down → to < m
+    → Rolls down m n by to rounds → stepped n s m ≡ to
 stepped_is false n m by to rounds (pos a) same sign lt e =
     let same' : by ≡ a = same in
     let sum : n + a ≡ to + rounds * m = omega arith in
@@ -43,4 +44,5 @@ stepped_is true n m by to rounds (pos a) same sign lt e = absurd (omega (arith, 
 stepped_is false n m by to rounds (negsuc a) same sign lt e = cc
 stepped_is true n m by to rounds (negsuc a) same sign lt e =
     let same' : by ≡ suc a = same in
-    ap nat_abs (int_rem_euclid_is (pos n +ℤ negsuc a) (pos m) m rounds to (omega arith) refl (omega (arith, ints))) ∙ mod-eq_of_lt lt
+    ap nat_abs (int_rem_euclid_is (pos n +ℤ negsuc a) (pos m) m rounds to (omega arith) refl
+    (omega (arith, ints))) ∙ mod-eq_of_lt lt

@@ -2,7 +2,8 @@
 --   value10 b, value43 b     what a character counts for; a character outside the set of its check counts for 0
 --   character43 v            the character that counts for v
 --   counts c b               what a character counts for under the check c
---   weight n                 in modulus 10 a digit with n digits behind it counts 3 times, once, 3 times, .. from the right
+--   weight n                 in modulus 10 a digit with n digits behind it counts 3 times, once, 3 times, .. from the
+--                            right
 --   check_sum c t            the weighted sum of t under the check c
 --   check_character c t      the check character of t, as a text of one byte; none for NoCheck
 --   admits c b               the check c takes the character b;  admits_all c t  it takes all of t
@@ -18,14 +19,16 @@ value10 b = cond (is_digit b) (b - 48) 0
 -- 0 to 9 count for 0 to 9, A to Z for 10 to 35, then - . space $ / + % for 36 to 42
 abbrev pub special43 : ℕ → ℕ
 special43 b =
-    cond (b == 45) 36 (cond (b == 46) 37 (cond (b == 32) 38 (cond (b == 36) 39 (cond (b == 47) 40 (cond (b == 43) 41 (cond (b == 37) 42 0))))))
+    cond (b == 45) 36 (cond (b == 46) 37 (cond (b == 32) 38 (cond (b == 36) 39
+    (cond (b == 47) 40 (cond (b == 43) 41 (cond (b == 37) 42 0))))))
 
 abbrev pub value43 : ℕ → ℕ
 value43 b = cond (is_digit b) (b - 48) (cond (is_capital b) (b - 55) (special43 b))
 
 abbrev pub character43 : ℕ → ℕ
 character43 v =
-    cond (nat_lt v 10) (48 + v) (cond (nat_lt v 36) (55 + v) (slice_index (45 ∷ 46 ∷ 32 ∷ 36 ∷ 47 ∷ 43 ∷ 37 ∷ []) (v - 36)))
+    cond (nat_lt v 10) (48 + v) (cond (nat_lt v 36) (55 + v)
+    (slice_index (45 ∷ 46 ∷ 32 ∷ 36 ∷ 47 ∷ 43 ∷ 37 ∷ []) (v - 36)))
 
 abbrev pub weight : ℕ → ℕ
 weight n = cond (n % 2 == 0) 3 1

@@ -1,4 +1,5 @@
--- A rule whose wheels are digits is lawful, if its test passes digits alone and does not see which digit stands at a place.
+-- A rule whose wheels are digits is lawful, if its test passes digits alone and does not see which digit stands
+-- at a place.
 use Rattle.std.specs.Prelude.{◌≡◌, ℕ, ◌+◌, ◌-◌, ◌<◌, ◌≤◌, Bool, true, false, cond, ◌⊎◌, List, length, set, ◌==◌, ◌≢◌, nat_eq, slice_index, slice_set, refl}
 use Rattle.std.proofs.Common.{sym, ap, ◌∙◌, inl, inr, ⊎_elim, arith}
 use Rattle.std.proofs.lemmas.List.{get_or-set_same, get_or-set_other, set-get_or}
@@ -10,7 +11,8 @@ use Rattle.texts.specs.Digits.{digit_wheels, plain_place, after_mark, code128_pl
 
 pub record Tests (wheel : List ℕ → ℕ → Bool) : Type 0 where
   pub digit : (t : List ℕ) (p : ℕ) → wheel t p ≡ true → is_digit (slice_index t p) ≡ true
-  pub blind : (t : List ℕ) (p b : ℕ) → p < length t → is_digit (slice_index t p) ≡ true → is_digit b ≡ true → (q : ℕ) → wheel (slice_set t p b) q ≡ wheel t q
+  pub blind : (t : List ℕ) (p b : ℕ) → p < length t → is_digit (slice_index t p) ≡ true → is_digit b ≡ true
+      → (q : ℕ) → wheel (slice_set t p b) q ≡ wheel t q
 
 digit_from : (v : ℕ) → v < 10 → is_digit (48 + v) ≡ true
 digit_from v lt = grind (arith, nat_tests)
@@ -18,13 +20,17 @@ digit_from v lt = grind (arith, nat_tests)
 digit_low : (b : ℕ) → is_digit b ≡ true → b - 48 < 10
 digit_low b d = grind (arith, nat_tests)
 
+digit_shown : (b : ℕ) → is_digit b ≡ true → 48 + (b - 48) ≡ b
+digit_shown b d = grind (arith, nat_tests)
+
 not_both : (b : ℕ) → is_digit b ≡ true → is_capital b ≢ true
 not_both b d c = grind (arith, nat_tests)
 
 -- what a place is, and what a value of it writes
 abbrev Ways : (List ℕ → ℕ → Bool) → List ℕ → ℕ → ℕ → Type 0
 Ways wheel t p v =
-    ((wheel t p ≡ true) × (v < 10) × ((digit_wheels wheel).byte t p v ≡ 48 + v)) ⊎ ((wheel t p ≡ false) × (v ≡ 0) × ((digit_wheels wheel).byte t p v ≡ slice_index t p))
+    ((wheel t p ≡ true) × (v < 10) × ((digit_wheels wheel).byte t p v ≡ 48 + v))
+    ⊎ ((wheel t p ≡ false) × (v ≡ 0) × ((digit_wheels wheel).byte t p v ≡ slice_index t p))
 
 module _ (wheel : List ℕ → ℕ → Bool) (s : Tests wheel) where
   ways : (t : List ℕ) (p v : ℕ) → v < (digit_wheels wheel).radix t p → Ways wheel t p v
@@ -35,14 +41,16 @@ module _ (wheel : List ℕ → ℕ → Bool) (s : Tests wheel) where
       (cases_Bool (wheel t p))
 
   -- what is written at a place shows in no test
-  blind_byte : (t : List ℕ) (p v : ℕ) → p < length t → v < (digit_wheels wheel).radix t p → (q : ℕ) → wheel (slice_set t p ((digit_wheels wheel).byte t p v)) q ≡ wheel t q
+  blind_byte : (t : List ℕ) (p v : ℕ) → p < length t → v < (digit_wheels wheel).radix t p → (q : ℕ)
+      → wheel (slice_set t p ((digit_wheels wheel).byte t p v)) q ≡ wheel t q
   blind_byte t p v lt low q =
       ⊎_elim
       (λ x. s.blind t p _ lt (s.digit t p x.0) (ap is_digit x.2 ∙ digit_from v x.1) q)
       (λ x. ap (λ b. wheel (slice_set t p b) q) x.2 ∙ ap (λ u. wheel u q) (set-get_or t p 0))
       (ways t p v low)
 
-  gives : (t : List ℕ) (p v : ℕ) → p < length t → v < (digit_wheels wheel).radix t p → (digit_wheels wheel).value (slice_set t p ((digit_wheels wheel).byte t p v)) p ≡ v
+  gives : (t : List ℕ) (p v : ℕ) → p < length t → v < (digit_wheels wheel).radix t p
+      → (digit_wheels wheel).value (slice_set t p ((digit_wheels wheel).byte t p v)) p ≡ v
   gives t p v lt low =
       let u = set t p ((digit_wheels wheel).byte t p v) in
       let same = blind_byte t p v lt low p in
@@ -53,22 +61,40 @@ module _ (wheel : List ℕ → ℕ → Bool) (s : Tests wheel) where
       (ways t p v low)
 
   spares : (t : List ℕ) (p v : ℕ) → p < length t → v < (digit_wheels wheel).radix t p → (q : ℕ) → (q ≢ p)
-      → (digit_wheels wheel).value (slice_set t p ((digit_wheels wheel).byte t p v)) q ≡ (digit_wheels wheel).value t q
+      → (digit_wheels wheel).value (slice_set t p ((digit_wheels wheel).byte t p v)) q ≡
+      (digit_wheels wheel).value t q
   spares t p v lt low q ne =
       let u = set t p ((digit_wheels wheel).byte t p v) in
-      ap (λ b. cond b (slice_index u q - 48) 0) (blind_byte t p v lt low q) ∙ ap (λ x. cond (wheel t q) (x - 48) 0) (get_or-set_other t p q ((digit_wheels wheel).byte t p v) 0 ne)
+      ap (λ b. cond b (slice_index u q - 48) 0) (blind_byte t p v lt low q)
+      ∙ ap (λ x. cond (wheel t q) (x - 48) 0) (get_or-set_other t p q
+      ((digit_wheels wheel).byte t p v) 0 ne)
 
   below : (t : List ℕ) (p : ℕ) → (digit_wheels wheel).value t p < (digit_wheels wheel).radix t p
   below t p =
-      ⊎_elim (λ (e : wheel t p ≡ true). simp e (digit_low (slice_index t p) (s.digit t p e))) (λ (e : wheel t p ≡ false). simp e (omega arith)) (cases_Bool (wheel t p))
+      ⊎_elim (λ (e : wheel t p ≡ true). simp e (digit_low (slice_index t p) (s.digit t p e)))
+      (λ (e : wheel t p ≡ false). simp e (omega arith)) (cases_Bool (wheel t p))
 
-  capitals : (t : List ℕ) (p v : ℕ) → v < (digit_wheels wheel).radix t p → is_capital (slice_index t p) ≡ true → is_capital ((digit_wheels wheel).byte t p v) ≡ true
+  capitals : (t : List ℕ) (p v : ℕ) → v < (digit_wheels wheel).radix t p → is_capital (slice_index t p) ≡ true
+      → is_capital ((digit_wheels wheel).byte t p v) ≡ true
   capitals t p v low c =
-      ⊎_elim (λ x. absurd (not_both (slice_index t p) (s.digit t p x.0) c)) (λ x. ap is_capital x.2 ∙ c) (ways t p v low)
+      ⊎_elim (λ x. absurd (not_both (slice_index t p) (s.digit t p x.0) c)) (λ x. ap is_capital x.2 ∙ c)
+      (ways t p v low)
 
   fixed : (t : List ℕ) (p : ℕ) → is_digit (slice_index t p) ≡ false → (digit_wheels wheel).radix t p ≡ 1
   fixed t p d =
-      ⊎_elim (λ e. absurd (both_ways (is_digit (slice_index t p)) d (s.digit t p e))) (λ e. cond-false (wheel t p) 10 1 e) (cases_Bool (wheel t p))
+      ⊎_elim (λ e. absurd (both_ways (is_digit (slice_index t p)) d (s.digit t p e)))
+      (λ e. cond-false (wheel t p) 10 1 e) (cases_Bool (wheel t p))
+
+  -- the byte of the value that a place has is the one that stands there
+  pub byte_kept : (t : List ℕ) (p : ℕ)
+      → (digit_wheels wheel).byte t p ((digit_wheels wheel).value t p) ≡ slice_index t p
+  byte_kept t p =
+      ⊎_elim
+      (λ x.
+      let digit = digit_shown (slice_index t p) (s.digit t p x.0) in
+      x.2 ∙ ap (λ v. 48 + v) (cond-true (wheel t p) (slice_index t p - 48) 0 x.0) ∙ digit)
+      (λ x. x.2)
+      (ways t p ((digit_wheels wheel).value t p) (below t p))
 
   pub digits_lawful : Lawful (digit_wheels wheel)
   digits_lawful =
@@ -79,15 +105,18 @@ module _ (wheel : List ℕ → ℕ → Bool) (s : Tests wheel) where
         gives = λ t h p v lt low. gives t p v lt low;
         keeps = λ t h p v lt low q inside. ap (λ b. cond b 10 1) (blind_byte t p v lt low q);
         spares = λ t h p v lt low q inside ne. spares t p v lt low q ne;
-        digits = λ t h p v lt low d. ⊎_elim (λ x. ap is_digit x.2 ∙ digit_from v x.1) (λ x. ap is_digit x.2 ∙ d) (ways t p v low);
+        digits = λ t h p v lt low d. ⊎_elim (λ x. ap is_digit x.2 ∙ digit_from v x.1) (λ x. ap is_digit x.2 ∙ d)
+            (ways t p v low);
         capitals = λ t h p v lt low c. capitals t p v low c;
         fixed = λ t h p lt d c. fixed t p d;
       }
 
-plain_blind : (t : List ℕ) (p b : ℕ) → p < length t → is_digit (slice_index t p) ≡ true → is_digit b ≡ true → (q : ℕ) → plain_place (slice_set t p b) q ≡ plain_place t q
+plain_blind : (t : List ℕ) (p b : ℕ) → p < length t → is_digit (slice_index t p) ≡ true → is_digit b ≡ true
+    → (q : ℕ) → plain_place (slice_set t p b) q ≡ plain_place t q
 plain_blind t p b lt was is q =
     ⊎_elim
-    (λ e. ap (plain_place (slice_set t p b)) e ∙ ap is_digit (get_or-set_same t p b 0 lt) ∙ is ∙ sym (ap (plain_place t) e ∙ was))
+    (λ e. ap (plain_place (slice_set t p b)) e ∙ ap is_digit (get_or-set_same t p b 0 lt) ∙ is
+    ∙ sym (ap (plain_place t) e ∙ was))
     (λ ne. ap is_digit (get_or-set_other t p q b 0 ne))
     (cases_eq q p)
 
@@ -95,10 +124,13 @@ no_mark : (b : ℕ) → is_digit b ≡ true → (b == 62) ≡ false
 no_mark b d = grind (arith, nat_tests)
 
 -- nor does a digit turn into a mark
-mark_blind : (t : List ℕ) (p b : ℕ) → p < length t → is_digit (slice_index t p) ≡ true → is_digit b ≡ true → (q : ℕ) → (slice_index (slice_set t p b) q == 62) ≡ (slice_index t q == 62)
+mark_blind : (t : List ℕ) (p b : ℕ) → p < length t → is_digit (slice_index t p) ≡ true → is_digit b ≡ true
+    → (q : ℕ) → (slice_index (slice_set t p b) q == 62) ≡ (slice_index t q == 62)
 mark_blind t p b lt was is q =
     ⊎_elim
-    (λ e. ap (λ k. nat_eq (slice_index (slice_set t p b) k) 62) e ∙ ap (λ x. nat_eq x 62) (get_or-set_same t p b 0 lt) ∙ no_mark b is ∙ sym (ap (λ k. nat_eq (slice_index t k) 62) e ∙ no_mark (slice_index t p) was))
+    (λ e. ap (λ k. nat_eq (slice_index (slice_set t p b) k) 62) e
+    ∙ ap (λ x. nat_eq x 62) (get_or-set_same t p b 0 lt) ∙ no_mark b is
+    ∙ sym (ap (λ k. nat_eq (slice_index t k) 62) e ∙ no_mark (slice_index t p) was))
     (λ ne. ap (λ x. nat_eq x 62) (get_or-set_other t p q b 0 ne))
     (cases_eq q p)
 
@@ -110,7 +142,8 @@ code128_tests =
     record {
       digit = λ t p e. passes (after_mark t p) (plain_place t p) e;
       blind = λ t p b lt was is q.
-          ap (λ x. cond (cond (q == 0) false x) false (plain_place (slice_set t p b) q)) (mark_blind t p b lt was is (q - 1))
+          ap (λ x. cond (cond (q == 0) false x) false (plain_place (slice_set t p b) q))
+          (mark_blind t p b lt was is (q - 1))
           ∙ ap (cond (after_mark t q) false) (plain_blind t p b lt was is q);
     }
   where

@@ -1,6 +1,7 @@
 -- The counting rules whose wheels are digits.
---   digit_wheels wheel  the rule of a test that tells whether a place is a wheel: a wheel of 10 has its digit's value, and
---                       any other place is fixed. A value that the place cannot have leaves the byte that stands there
+--   digit_wheels wheel  the rule of a test that tells whether a place is a wheel: a wheel of 10 has its digit's
+--                       value, and any other place is fixed. A value that the place cannot have leaves the byte
+--                       that stands there
 --   plain_place         every digit is a wheel
 --   code128_place       every digit but one just after >, which is a code there
 use Rattle.std.specs.Prelude.{ℕ, ◌+◌, ◌-◌, Bool, false, cond, List, ◌==◌, nat_lt, slice_index}

@@ -1,6 +1,6 @@
 -- How texts are joined.
---   Fits s r   r is what joining texts to the bytes s answers: the text with just these bytes, or none where they are too
---              many for a text
+--   Fits s r   r is what joining texts to the bytes s answers: the text with just these bytes, or none where they
+--              are too many for a text
 use Rattle.std.specs.Prelude.{◌≡◌, ℕ, ◌<◌, ◌≤◌, List, length, Some, None, Option}
 use Rattle.limits.specs.Limits.{longest_text}
 use Rattle.texts.specs.Contents.{contents}

@@ -1,6 +1,7 @@
 -- How a wheel takes a step and carries on.
---   Rolls down r d c v e      a wheel of r values that has the value d, turned by c, has the value v and carries e to the
---                             wheel on its left: it goes up, or down, in whole rounds of r but for the difference of d and v
+--   Rolls down r d c v e      a wheel of r values that has the value d, turned by c, has the value v and carries
+--                             e to the wheel on its left: it goes up, or down, in whole rounds of r but for the
+--                             difference of d and v
 --   Rolled w t p down c u e   place p of t turned by c, which carries e on, leaves u
 use Rattle.std.specs.Prelude.{◌≡◌, ℕ, ◌+◌, ◌*◌, ◌<◌, Bool, true, false, List}
 use Rattle.texts.specs.Wheels.{Wheels}

@@ -3,8 +3,10 @@
 --   spelt w t k        the number that the last k places of t spell, the rightmost lowest
 --   number w t         the number N that all of t spells;  cycle w t  the number M of numbers that t can spell
 --   stepped n s m      (n + s) mod m, from 0 to m − 1, for a signed step s
---   written w t n k    t with its last k places made to spell n: every wheel among them, the rightmost first, gets the byte
---                      of n's digit there, and fixed places stay
+--   written w t n k    t with its last k places made to spell n: every wheel among them, the rightmost first,
+--                      gets the byte of n's digit there, and fixed places stay
+--   rewritten w t k    t whose first k places have the bytes of their values: every wheel among them, the rightmost
+--                      first, gets the byte of the value that it has
 --   turned w t s       t turned by the step s: all wheels get the bytes of (N + s) mod M; a step of 0 changes nothing
 --   Turned w t s u     u is t turned by s, with what that means: the number, the wheels and the fixed bytes
 use Rattle.std.specs.Prelude.{◌≡◌, ℕ, zero, suc, ◌+◌, ◌-◌, ◌*◌, ◌/◌, ◌%◌, ◌<◌, Bool, true, false, cond, List, length, ℤ, pos, negsuc, ◌+ℤ◌, ◌==◌, nat_lt, slice_index, slice_set, unsigned_abs}
@@ -35,7 +37,12 @@ placed w t p v = cond (nat_lt 1 (w.radix t p)) (slice_set t p (w.byte t p v)) t
 
 abbrev pub written : Wheels → List ℕ → ℕ → ℕ → List ℕ
 written w t n zero = t
-written w t n (suc k) = placed w (written w t n k) (length t - suc k) (n / span w t k % w.radix t (length t - suc k))
+written w t n (suc k) = placed w (written w t n k) (length t - suc k)
+    (n / span w t k % w.radix t (length t - suc k))
+
+abbrev pub rewritten : Wheels → List ℕ → ℕ → List ℕ
+rewritten w t zero = t
+rewritten w t (suc k) = rewritten w (placed w t k (w.value t k)) k
 
 abbrev pub is_zero : ℤ → Bool
 is_zero (pos n) = n == 0
@@ -53,5 +60,7 @@ pub record Turned (w : Wheels) (t : List ℕ) (s : ℤ) (u : List ℕ) : Type 0 
   -- fixed bytes stay, digits stay digits, and capitals stay capitals
   pub stays : (p : ℕ) → p < length t → w.radix t p ≡ 1 → slice_index u p ≡ slice_index t p
   pub digits : (p : ℕ) → p < length t → is_digit (slice_index t p) ≡ true → is_digit (slice_index u p) ≡ true
-  pub capitals : (p : ℕ) → p < length t → is_capital (slice_index t p) ≡ true → is_capital (slice_index u p) ≡ true
-  pub others : (p : ℕ) → p < length t → is_digit (slice_index t p) ≡ false → is_capital (slice_index t p) ≡ false → slice_index u p ≡ slice_index t p
+  pub capitals : (p : ℕ) → p < length t → is_capital (slice_index t p) ≡ true
+      → is_capital (slice_index u p) ≡ true
+  pub others : (p : ℕ) → p < length t → is_digit (slice_index t p) ≡ false
+      → is_capital (slice_index t p) ≡ false → slice_index u p ≡ slice_index t p

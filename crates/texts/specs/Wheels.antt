@@ -1,8 +1,18 @@
 -- A counting rule, by what it means.
 --   Wheels     for each place of a text: its radix, that is how many values the place can have (a place of radix 1 is
---              fixed, any other is a wheel), its value, and the byte that stands for a value there. A rule may look at the
---              whole text
+--              fixed, any other is a wheel), its value, and the byte that stands for a value there. A rule may
+--              look at the whole text
 --   Lawful w   the laws of a counting rule, over every text, place p of it and value v below the radix of p
+--
+-- The laws of counting are three, and a frame for them:
+--   the frame        a radix is 1 to 26, and a value is below it                            some, most, below
+--   the first law    the byte given for a value has that value at that place                gives
+--   the second law   writing that byte changes the radix of no place, the written one       keeps, spares
+--                    among them, and the value of no other place
+--   the third law    digits give way only to digits, capitals only to capitals, and         digits, capitals, fixed
+--                    every other byte is fixed
+-- Each part is a field of its own, since proofs cite them one by one, and since they have different premises.
+-- No law says that a wheel has the byte that is given for its value: more than one byte may count for a value.
 use Rattle.std.specs.Prelude.{◌≡◌, ℕ, ◌<◌, ◌≤◌, true, false, List, length, ◌≢◌, slice_index, slice_set}
 use Rattle.limits.specs.Bytes.{is_digit, is_capital}
 use Rattle.texts.specs.Plain.{IsText}

@@ -6,7 +6,7 @@ ghost use Rattle.texts.specs.DigitWheels.{Tests, digits_lawful, plain_tests, cod
 use crate::rule::CountingRule;
 use limits::bytes::is_digit;
 
-// A rule whose wheels are digits, by which digits they are. specs/DigitWheels.antt has what such a test may see.
+/// A rule whose wheels are digits, by which digits they are. specs/DigitWheels.antt has what such a test may see.
 pub trait DigitRule {
     ghost wheel: { Self → List ℕ → ℕ → Bool };
 
@@ -16,11 +16,11 @@ pub trait DigitRule {
     ghost tests: { (r : Self) → Tests (wheel r) };
 }
 
-// Every digit is a wheel.
+/// Every digit is a wheel.
 #[derive(Clone, Copy)]
 pub struct PlainRule;
 
-// Every digit is a wheel, but one just after `>`, which is a code there.
+/// Every digit is a wheel, but one just after `>`, which is a code there.
 #[derive(Clone, Copy)]
 pub struct Code128Rule;
 
@@ -80,4 +80,7 @@ impl<D: DigitRule> CountingRule for D {
             byte_at(text, place)
         }
     }
+
+    // The byte of a digit's value is the digit, so every wheel has the byte of its value already.
+    fn rewrite(&self, _text: &mut [u8], _places: usize) {}
 }

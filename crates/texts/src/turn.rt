@@ -1,18 +1,14 @@
 // Turning a text by a signed step, by any counting rule.
 ghost use Rattle.std.specs.Prelude.{◌≡◌, suc, ◌+◌, ◌-◌, ◌*◌, ◌^◌, ◌<◌, true, length};
-ghost use Rattle.texts.specs.Checks.{admits_all};
-ghost use Rattle.texts.specs.declared.checks.Check.{Check};
 ghost use Rattle.texts.specs.Plain.{IsText};
-ghost use Rattle.texts.specs.Contents.{contents};
 ghost use Rattle.texts.specs.Turning.{Turned};
 ghost use Rattle.texts.specs.Rolling.{Rolls, Rolled};
 
 use crate::rule::CountingRule;
-use crate::text::Text;
-use fixedvec::FixedVec;
 
 // What is to be carried into a wheel, and which way.
-// Kept so: a signed number would be asked for its sign at every wheel, and could not hold the lowest step turned round.
+// Kept so: a signed number would be asked for its sign at every wheel, and could not hold the lowest step turned
+// round.
 #[derive(Clone, Copy)]
 struct Carry {
     down: bool,
@@ -65,7 +61,8 @@ fn turn_place<R: CountingRule>(rule: &R, text: &mut [u8], place: usize, carry: &
     requires text { IsText text.old }
     requires inside { place < length text.old }
     ensures way { carry.new.down ≡ carry.old.down }
-    ensures rolled { Rolled (R.CountingRule.wheels rule.now) text.old place carry.old.down carry.old.by text.new carry.new.by }
+    ensures rolled { let wheels = R.CountingRule.wheels rule.now in
+        Rolled wheels text.old place carry.old.down carry.old.by text.new carry.new.by }
 {
     let radix = rule.radix(text, place);
     if radix >= 2 {
@@ -74,8 +71,9 @@ fn turn_place<R: CountingRule>(rule: &R, text: &mut [u8], place: usize, carry: &
     }
 }
 
-// Turns a text's bytes, the rightmost place first. Every wheel gets the byte of its value, also where that is the value it had.
-fn turn_wheels<R: CountingRule>(rule: &R, text: &mut [u8], step: i64)
+// Turns a text's bytes, the rightmost place first. Every wheel gets the byte of its value, also where that is the value
+// it had.
+pub(crate) fn turn_wheels<R: CountingRule>(rule: &R, text: &mut [u8], step: i64)
     requires { IsText text.old }
     ensures { Turned (R.CountingRule.wheels rule.now) text.old step text.new }
 {
@@ -86,22 +84,10 @@ fn turn_wheels<R: CountingRule>(rule: &R, text: &mut [u8], step: i64)
         down: step < 0,
         by: step.unsigned_abs(),
     };
-    for place in (0..text.len()).rev() {
-        turn_place(rule, text, place, &mut carry);
+    let mut left = text.len();
+    while left > 0 && carry.by > 0 {
+        left -= 1;
+        turn_place(rule, text, left, &mut carry);
     }
-}
-
-impl Text {
-    // The text turned by a signed step: what its wheels spell goes on by it, round their cycle.
-    pub fn turned<R: CountingRule>(&self, rule: &R, step: i64) -> Text
-        ensures turned { Turned (R.CountingRule.wheels rule.now) (contents self.now) step (contents result) }
-        ensures admitted { (c : Check) → admits_all c (contents self.now) ≡ true → admits_all c (contents result) ≡ true }
-    {
-        let n = self.bytes.len();
-        let mut cells = self.bytes.to_array();
-        turn_wheels(rule, &mut cells[..n], step);
-        Text {
-            bytes: FixedVec::of_front(cells, n),
-        }
-    }
+    rule.rewrite(text, left);
 }

@@ -1,4 +1,4 @@
-// Turns forty zeros 9,999 times and prints the last text: the work that bench/turning.sh counts.
+// Turns forty zeros 9,999 times and prints the last text: the work that bench/measure counts.
 #![tactic(auto)]
 
 use std::{env, io};

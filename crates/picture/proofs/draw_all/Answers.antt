@@ -4,5 +4,6 @@ use Rattle.picture.proofs.draw_all.Goals as goal
 
 pub loop-drawing-preserved : goal.loop-drawing-preserved
 loop-drawing-preserved c =
-    redrawn_as _ _ _ _ (λ r k dot hr hk. drawn_more c.args.drawings.now c.loop-drawing.drawing-index _ r k dot c.loop-drawing-test.true)
+    let more = drawn_more c.args.drawings.now c.loop-drawing.drawing-index _ in
+    redrawn_as _ _ _ _ (λ r k dot hr hk. more r k dot c.loop-drawing-test.true)
     (redrawn_then _ _ _ _ _ c.loop-drawing.invariant c.draw_one.ensures)

@@ -1,5 +1,6 @@
 // The lengths of packed forms, and where each form lies by them.
 ghost use Rattle.std.specs.Prelude.{◌≡◌, ℕ, ◌+◌, ◌-◌, ◌≤◌, List, length, None, slice_index_or, slice_set, Some};
+ghost use Rattle.limits.specs.Limits.{last_form};
 ghost use Rattle.stores.specs.Forms.{vacant};
 ghost use Rattle.stores.specs.Packed.{before, used, size_at, packed_forms, packed_longest, packed_total};
 
@@ -9,9 +10,9 @@ use crate::parts::{NUMBERS, Number};
 #[derive(Clone, Copy)]
 pub struct Lens {
     entries: [Option<usize>; NUMBERS],
-    ghost twenty: { length entries ≡ 20 },
-    ghost within: { used entries ≤ 8192 },
-    ghost short: { (k : ℕ) → size_at entries k ≤ 1024 },
+    ghost all: { length entries ≡ last_form },
+    ghost within: { used entries ≤ packed_total },
+    ghost short: { (k : ℕ) → size_at entries k ≤ packed_longest },
 }
 
 // The part of the bytes that a form has, and the end of all forms.
@@ -27,7 +28,7 @@ pub struct Extent {
 // The bytes of all entries.
 #[tactic(auto, using(crate::specs::PackedLaws::used_sum))]
 fn total(lens: &[Option<usize>]) -> usize
-    requires { used lens.now ≤ 8192 }
+    requires { used lens.now ≤ packed_total }
     ensures { result ≡ used lens.now }
 {
     lens.iter().map(|len| len.unwrap_or(0)).sum()
@@ -36,7 +37,8 @@ fn total(lens: &[Option<usize>]) -> usize
 impl Lens {
     // No form at all.
     pub fn none() -> Lens
-        ensures { (b : List ℕ) → packed_forms result.entries b ≡ vacant packed_longest packed_total }
+        ensures { let empty = vacant packed_longest packed_total in
+            (b : List ℕ) → packed_forms result.entries b ≡ empty }
     {
         Lens {
             entries: [None; NUMBERS],
@@ -67,7 +69,8 @@ impl Lens {
     // Notes the length of a form that there is room for.
     pub fn set(&mut self, number: Number, len: usize)
         requires short { len ≤ packed_longest }
-        requires room { used self.old.entries + len ≤ packed_total + size_at self.old.entries (number.value - 1) }
+        requires room { let old_len = size_at self.old.entries (number.value - 1) in
+            used self.old.entries + len ≤ packed_total + old_len }
         ensures { self.new.entries ≡ slice_set self.old.entries (number.value - 1) (Some len) }
     {
         self.entries[number.place()] = Some(len);

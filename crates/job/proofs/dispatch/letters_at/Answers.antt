@@ -10,5 +10,7 @@ use Rattle.job.proofs.dispatch.letters_at.Goals as goal
 
 pub returns : goal.returns
 returns c =
-    let found = find_from_yields_List (λ l. starts_with eqb c.args.bytes.now (letters_of l)) _ _ c.find.result c.find.ensures.ran (YieldsList-from_copied (YieldsList-from_slice order cc)) (λ x b q k. search (rules, tests)) in
+    let found = find_from_yields_List
+    (λ l. starts_with eqb c.args.bytes.now (letters_of l)) _ _ c.find.result c.find.ensures.ran
+    (YieldsList-from_copied (YieldsList-from_slice order cc)) (λ x b q k. search (rules, tests)) in
     sym (option_map_id _) ∙ found ∙ find_is order c.args.bytes.now

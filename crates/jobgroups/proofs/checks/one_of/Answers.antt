@@ -14,7 +14,8 @@ or_is false t = refl
 
 any_is : (n : ℕ) (xs : List ℕ) → list_any (λ x. eqb x n) xs ≡ is_one_of xs n
 any_is n [] = refl
-any_is n (x ∷ xs) = ap (λ t. t || list_any (λ x. eqb x n) xs) (flip x n) ∙ ap (λ t. eqb n x || t) (any_is n xs) ∙ or_is (eqb n x) (is_one_of xs n)
+any_is n (x ∷ xs) = ap (λ t. t || list_any (λ x. eqb x n) xs) (flip x n) ∙ ap (λ t. eqb n x || t) (any_is n xs)
+    ∙ or_is (eqb n x) (is_one_of xs n)
 
 pub returns : goal.returns
 unfolding part_at

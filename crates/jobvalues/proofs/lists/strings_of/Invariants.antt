@@ -5,4 +5,5 @@ use Rattle.jobvalues.proofs.lists.strings_of.Given as goal
 
 -- the strings so far are there, and the others empty
 abbrev pub invariant-loop-k : goal.invariant-loop-k
-invariant-loop-k l = map contents l.strings ≡ map text_of (take (length l.yielded) (parted l.bytes) ++ replicate (8 - length l.yielded) [])
+invariant-loop-k l = map contents l.strings
+    ≡ map text_of (take (length l.yielded) (parted l.bytes) ++ replicate (8 - length l.yielded) [])

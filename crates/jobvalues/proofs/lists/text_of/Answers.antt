@@ -9,7 +9,8 @@ use Rattle.jobvalues.proofs.lists.text_of.Goals as goal
 pub returns : goal.returns
 returns c = go c.from_bytes.result refl
   where
-    go : (r : Result Text TextFault) → c.from_bytes.result ≡ r → contents c.unwrap_or_else.result ≡ text_of c.args.bytes.now
+    go : (r : Result Text TextFault) → c.from_bytes.result ≡ r
+        → contents c.unwrap_or_else.result ≡ text_of c.args.bytes.now
     go (Ok x) e =
         let is = rw e at c.unwrap_or_else.ensures in
         let made : Made c.args.bytes.now (Ok x) = rw e at c.from_bytes.ensures in

@@ -6,5 +6,7 @@ pub loop-row-preserved : goal.loop-row-preserved
 loop-row-preserved c =
     let low : c.args.rows.from ≤ c.loop-row.row = omega arith in
     let high : c.loop-row.row < c.min-row-end.result = omega arith in
-    redrawn_as _ _ _ _ (λ r k dot hr hk. row_more c.args.ink c.args.rows.from c.min-row-end.result c.args.columns c.loop-row.row r k dot low high)
+    let rows = c.args.rows in
+    redrawn_as _ _ _ _
+    (λ r k dot hr hk. row_more c.args.ink rows.from c.min-row-end.result c.args.columns c.loop-row.row r k dot low high)
     (redrawn_then _ _ _ _ _ c.loop-row.invariant c.fill_row.ensures)

@@ -5,4 +5,5 @@ use Rattle.picture.proofs.fill.fill_box.Given as goal
 
 -- the rows of the box before row are inked
 abbrev pub invariant-loop-row : goal.invariant-loop-row
-invariant-loop-row l = Redrawn (λ r c. inked l.ink (rows_sofar l.initial.row l.row-end l.columns l.row r c)) l.initial.dots l.dots
+invariant-loop-row l =
+    Redrawn (λ r c. inked l.ink (rows_sofar l.initial.row l.row-end l.columns l.row r c)) l.initial.dots l.dots

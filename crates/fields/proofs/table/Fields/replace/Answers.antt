@@ -6,4 +6,5 @@ use Rattle.fields.proofs.table.Fields.replace.Goals as goal
 
 pub returns : goal.returns
 returns c =
-    c.update.ensures (λ _. outside_check c.args.format.check (contents c.args.text)) (λ _. replaced_by (seen_format c.args.format) (contents c.args.text)) (λ x y r h. search rules)
+    c.update.ensures (λ _. outside_check c.args.format.check (contents c.args.text))
+    (λ _. replaced_by (seen_format c.args.format) (contents c.args.text)) (λ x y r h. search rules)

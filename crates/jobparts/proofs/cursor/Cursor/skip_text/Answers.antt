@@ -1,6 +1,6 @@
 use Rattle.std.proofs.Common.{ap, arith}
 use Rattle.jobparts.specs.Kinds.{run}
-use Rattle.jobparts.specs.declared.part.Kind.TheVariants.{Text}
+use Rattle.jobparts.specs.declared.part.ByteKind.TheVariants.{Text}
 use Rattle.jobparts.proofs.Runs.{run_le}
 use Rattle.jobparts.proofs.cursor.Cursor.skip_text.Goals as goal
 

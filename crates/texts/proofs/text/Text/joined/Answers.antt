@@ -17,7 +17,8 @@ both a b t p q e le =
           ap in_text (ap (λ l. get_or l k 0) e)
           ∙ ⊎_elim
           (λ first. ap in_text (get_or_append_left a b 0 k first) ∙ p.plain k first)
-          (λ second. ap in_text (get_or-append_right a b (length a) k 0 refl second) ∙ q.plain (k - length a) (omega (arith, ap length e, length-append a b)))
+          (λ second. ap in_text (get_or-append_right a b (length a) k 0 refl second)
+          ∙ q.plain (k - length a) (omega (arith, ap length e, length-append a b)))
           (cases_lt k (length a));
     }
 

@@ -1,0 +1,13 @@
+pub mod Bodies
+pub mod Commands
+pub mod Fits
+pub mod Frames
+pub mod Laid
+pub mod Laws
+pub mod Meant
+pub mod Placed
+pub mod Refused
+pub mod Right
+pub mod Rows
+pub mod Spelled
+pub mod Written

@@ -1,0 +1,3 @@
+mod Outcome
+pub mod Lines
+pub mod Written
