@@ -22,10 +22,11 @@ use Rattle.jobrun.specs.Jobs.{Worked, tags_in}
 use Rattle.jobrun.specs.Calls.{Booked}
 use Rattle.jobrun.specs.Outcomes.{SameFront, AsLong, InStep, cannot_begin}
 use Rattle.jobrun.specs.declared.stage.Stage.{Stage}
+use Rattle.shop_job.specs.declared.running.TheConstants.{ROLL}
 
 -- the tags of a roll
 abbrev pub roll_tags : ℕ
-roll_tags = 500
+roll_tags = ROLL
 
 abbrev pub new_store : Forms
 new_store = vacant packed_longest packed_total

@@ -13,8 +13,8 @@ use texts::digits::{Code128Rule, PlainRule};
 // A station of the kind that shops have.
 type ShopStation = Station<PackedStore, Roll, PlainRule, Code128Rule>;
 
-// The tags of a roll. What a job prints does not depend on it.
-const ROLL: u64 = 500;
+/// The tags of a roll. What a job prints does not depend on it.
+pub const ROLL: u64 = 500;
 
 /// Does a job on a new station, as the program `tagrun` does; tells how many tags it printed, each of which the
 /// listener heard of, or why the listener gave up.

@@ -10,6 +10,8 @@ mod forms;
 #[cfg(test)]
 mod jobs;
 #[cfg(test)]
+mod kept;
+#[cfg(test)]
 mod logs;
 #[cfg(test)]
 mod modes;
@@ -24,5 +26,6 @@ mod runs;
 mod script;
 #[cfg(test)]
 mod stocks;
+pub mod veteran;
 #[cfg(test)]
 mod watched;
