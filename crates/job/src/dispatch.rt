@@ -6,19 +6,36 @@ ghost use Rattle.job.specs.Reading.{first_led, parsed_at};
 
 use crate::commands::command;
 use jobgroups::command::Command;
-use jobgroups::letters::{Letters, ORDER};
+use jobgroups::letters::{LabelLetters, Letters, StationLetters};
 use jobparts::bytes::rest_at;
 use jobparts::cursor::Cursor;
 use jobparts::part::{ReadRefusal, Wrong};
 
 // The first letters, in the order in which they are tried, with which the bytes begin.
+// Kept so: the letters tried one by one look at the front of a body up to sixteen times.
 pub fn letters_at(bytes: &[u8]) -> Option<Letters>
     ensures { result ≡ first_led order bytes.now }
 {
-    ORDER
-        .iter()
-        .copied()
-        .find(|letters| bytes.starts_with(letters.bytes()))
+    let letters = match bytes {
+        [b'D', ..] => Letters::OfLabel(LabelLetters::D),
+        [b'C', ..] => Letters::OfLabel(LabelLetters::C),
+        [b'P', b'C', ..] => Letters::OfLabel(LabelLetters::Pc),
+        [b'X', b'B', ..] => Letters::OfLabel(LabelLetters::Xb),
+        [b'R', b'C', b';', ..] => Letters::OfLabel(LabelLetters::RcLinks),
+        [b'R', b'C', ..] => Letters::OfLabel(LabelLetters::Rc),
+        [b'R', b'B', ..] => Letters::OfLabel(LabelLetters::Rb),
+        [b'L', b'C', ..] => Letters::OfLabel(LabelLetters::Lc),
+        [b'X', b'R', ..] => Letters::OfLabel(LabelLetters::Xr),
+        [b'X', b'S', ..] => Letters::OfStation(StationLetters::Xs),
+        [b'X', b'O', ..] => Letters::OfStation(StationLetters::Xo),
+        [b'X', b'P', ..] => Letters::OfStation(StationLetters::Xp),
+        [b'X', b'Q', ..] => Letters::OfStation(StationLetters::Xq),
+        [b'J', b'1', ..] => Letters::OfStation(StationLetters::J1),
+        [b'W', b'S', ..] => Letters::OfStation(StationLetters::Ws),
+        [b'W', b'R', ..] => Letters::OfStation(StationLetters::Wr),
+        _ => return None,
+    };
+    Some(letters)
 }
 
 // Reads the parts of the command that the letters tell, and nothing may be left over.

@@ -8,6 +8,7 @@ use jobgroups::command::Command;
 use jobparts::bytes::{first, rest_at, stands_at};
 use jobparts::part::ReadRefusal;
 use limits::sizes::{LONGEST_COMMAND, LONGEST_JOB};
+use memchr::memchr;
 
 const ESC: u8 = 0x1b;
 
@@ -20,7 +21,7 @@ pub fn count_before(bytes: &[u8], b: u8) -> usize
     ensures count { result ≡ before b bytes.now }
     ensures within { result ≤ length bytes.now }
 {
-    bytes.iter().position(|x| *x == b).unwrap_or(bytes.len())
+    memchr(b, bytes).unwrap_or(bytes.len())
 }
 
 // The place of the first ESC behind a place, or the job's end.
