@@ -133,58 +133,39 @@ fn store_b(cursor: &mut Cursor<'_>) -> Result<(), Wrong>
     cursor.byte(b'B')
 }
 
-// The command to the label that the letters tell, with all its parts.
-fn label_command<'a>(
-    letters: LabelLetters,
-    cursor: &mut Cursor<'a>,
-) -> Result<LabelCommand<'a>, Wrong>
-    ensures parts { let read = groups_at (label_parts_of letters) [] in
-        Takes label_slots result cursor.old cursor.new read }
-    ensures letters { IfOk result (λ c. label_letters c ≡ letters) }
-{
-    match letters {
-        LabelLetters::D => sizes_at(cursor).map(LabelCommand::SetSize),
-        LabelLetters::C => Ok(LabelCommand::Clear),
-        LabelLetters::Pc => text_format(cursor).map(LabelCommand::FormatText),
-        LabelLetters::Xb => bar_format(cursor).map(LabelCommand::FormatBar),
-        LabelLetters::RcLinks => cursor
-            .list_part(List::Strings, FURTHER_STRINGS)
-            .map(LabelCommand::SetLinks),
-        LabelLetters::Rc => field_text(cursor).map(LabelCommand::SetText),
-        LabelLetters::Rb => bar_text(cursor).map(LabelCommand::SetBar),
-        LabelLetters::Lc => line(cursor).map(LabelCommand::DrawLine),
-        LabelLetters::Xr => area(cursor).map(LabelCommand::MarkArea),
-    }
-}
-
-// The command to the station itself that the letters tell, with all its parts.
-fn station_command<'a>(
-    letters: StationLetters,
-    cursor: &mut Cursor<'a>,
-) -> Result<StationCommand<'a>, Wrong>
-    ensures parts { let read = groups_at (station_parts_of letters) [] in
-        Takes station_slots result cursor.old cursor.new read }
-    ensures letters { IfOk result (λ c. station_letters c ≡ letters) }
-{
-    match letters {
-        StationLetters::Xs => issue(cursor).map(StationCommand::PrintIssue),
-        StationLetters::Xo => form_at(cursor).map(StationCommand::BeginSaving),
-        StationLetters::Xp => Ok(StationCommand::EndSaving),
-        StationLetters::Xq => recall(cursor).map(StationCommand::RecallForm),
-        StationLetters::J1 => store_b(cursor).map(|()| StationCommand::EmptyStore),
-        StationLetters::Ws => Ok(StationCommand::WriteStatus),
-        StationLetters::Wr => Ok(StationCommand::Reset),
-    }
-}
-
 // The command that the letters tell, with all its parts.
+// Kept so: two functions, one for commands to the label and one for the others, would each hand a command of 400 bytes up.
 pub(crate) fn command<'a>(letters: Letters, cursor: &mut Cursor<'a>) -> Result<Command<'a>, Wrong>
     ensures parts { let read = groups_at (parts_of letters) [] in
         Takes (λ c. (seen_command c).parts) result cursor.old cursor.new read }
     ensures letters { IfOk result (λ c. (seen_command c).letters ≡ letters) }
 {
-    match letters {
-        Letters::OfLabel(letters) => label_command(letters, cursor).map(Command::Label),
-        Letters::OfStation(letters) => station_command(letters, cursor).map(Command::Station),
-    }
+    let command = match letters {
+        Letters::OfLabel(letters) => Command::Label(match letters {
+            LabelLetters::D => LabelCommand::SetSize(sizes_at(cursor)?),
+            LabelLetters::C => LabelCommand::Clear,
+            LabelLetters::Pc => LabelCommand::FormatText(text_format(cursor)?),
+            LabelLetters::Xb => LabelCommand::FormatBar(bar_format(cursor)?),
+            LabelLetters::RcLinks => {
+                LabelCommand::SetLinks(cursor.list_part(List::Strings, FURTHER_STRINGS)?)
+            }
+            LabelLetters::Rc => LabelCommand::SetText(field_text(cursor)?),
+            LabelLetters::Rb => LabelCommand::SetBar(bar_text(cursor)?),
+            LabelLetters::Lc => LabelCommand::DrawLine(line(cursor)?),
+            LabelLetters::Xr => LabelCommand::MarkArea(area(cursor)?),
+        }),
+        Letters::OfStation(letters) => Command::Station(match letters {
+            StationLetters::Xs => StationCommand::PrintIssue(issue(cursor)?),
+            StationLetters::Xo => StationCommand::BeginSaving(form_at(cursor)?),
+            StationLetters::Xp => StationCommand::EndSaving,
+            StationLetters::Xq => StationCommand::RecallForm(recall(cursor)?),
+            StationLetters::J1 => {
+                store_b(cursor)?;
+                StationCommand::EmptyStore
+            }
+            StationLetters::Ws => StationCommand::WriteStatus,
+            StationLetters::Wr => StationCommand::Reset,
+        }),
+    };
+    Ok(command)
 }
