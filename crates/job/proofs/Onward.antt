@@ -1,12 +1,12 @@
 -- Reading goes on behind the place, unless the job has ended there or was not open.
-use Rattle.std.proofs.Common.{◌≡◌, ℕ, ◌+◌, ◌<◌, Bool, true, false, cond, eqb, ltb, List, length, get_or, take, Ok, Err, Result, refl, arith}
+use Rattle.std.proofs.Common.{◌≡◌, ℕ, ◌+◌, ◌<◌, Bool, true, false, cond, eqb, ltb, List, length, get_or, take, Ok, Err, Result, refl, sym, ap, ◌∙◌, arith}
 use Rattle.std.proofs.lemmas.Bool.{ltb-true, false≢true}
 use Rattle.jobparts.specs.Kinds.{stands}
 use Rattle.jobparts.specs.declared.part.ReadRefusal.{ReadRefusal}
 use Rattle.jobparts.specs.declared.part.ReadRefusal.TheVariants.{OutOfBounds, AtEnd, NoEscape, NoEnding, UnknownLetters, WrongByte, NotAdmitted}
 use Rattle.jobparts.specs.declared.part.Wrong.{Wrong}
 use Rattle.jobgroups.specs.Commands.{CommandSeen}
-use Rattle.job.specs.Reading.{before, fault, next_escape, window, then_read, placed, body_at, read_at, answer_of, next_of}
+use Rattle.job.specs.Reading.{before, fault, next_escape, window, bounds_at, begin_at, ending_at, then_read, placed, body_at, end_at, read_at, answer_of, next_of}
 use Rattle.job.specs.declared.fault.ReadFault.{ReadFault}
 
 abbrev ends : ReadRefusal → Bool
@@ -34,6 +34,23 @@ ended (Err e) = ends e.refusal
 next_placed : (next : ℕ) (r : Result CommandSeen Wrong) → next_of (placed next r) ≡ next
 next_placed next (Ok p) = refl
 next_placed next (Err w) = refl
+
+-- what is read behind three tests is read behind the three together
+all_tested : {X Y Z : Type 0} (a : Result X ReadFault) (b : Result Y ReadFault) (c : Result ℕ ReadFault)
+    (f : ℕ → Result Z ReadFault) → then_read a (λ _. then_read b (λ _. then_read c f))
+    ≡ then_read (then_read a (λ _. then_read b (λ _. c))) f
+all_tested (Ok x) (Ok y) (Ok n) f = refl
+all_tested (Ok x) (Ok y) (Err e) f = refl
+all_tested (Ok x) (Err e) c f = refl
+all_tested (Err e) b c f = refl
+
+-- behind the command's end reading goes on
+pub next_is : (job : List ℕ) (at end : ℕ) → end_at job at ≡ Ok end → end + 2 ≡ next_of (read_at job at)
+next_is job at end e =
+    let body : ℕ → Result (CommandSeen × ℕ) ReadFault = λ n. placed (n + 2) (body_at (take n job) at) in
+    let told : read_at job at ≡ body end =
+    all_tested (bounds_at job at) (begin_at job at) (ending_at job at) body ∙ ap (λ r. then_read r body) e in
+    sym (ap next_of told ∙ next_placed (end + 2) (body_at (take end job) at))
 
 -- read_at, with its tests as variables
 abbrev opened : Bool → Bool → ℕ → Result (Unit {0}) ReadFault

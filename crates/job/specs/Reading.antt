@@ -7,6 +7,7 @@
 --   bounds_at            the job is not too long, and the place not past its end
 --   begin_at           a command begins at the place
 --   ending_at          the place of the LF that ends it: the first, with NUL behind it, both within the longest command
+--   end_at             the same, once the bounds and the ESC are tested
 --   read_at            the command at a place and the place behind it, or the fault
 --   refusal_of, fault_of what the reader refuses, as a station tells it
 use Rattle.std.specs.Prelude.{ℕ, ◌+◌, Bool, true, false, cond, List, [], ◌∷◌, length, take, drop, Some, None, Ok, Err, Option, Result, ◌==◌, nat_eq, nat_lt, slice_index}
@@ -84,6 +85,10 @@ abbrev pub then_read : {X Y : Type 0} → Result X ReadFault → (X → Result Y
 then_read (Ok x) f = f x
 then_read (Err e) f = Err e
 
+-- the place of the LF that ends the command at a place, which begins there
+abbrev pub end_at : List ℕ → ℕ → Result ℕ ReadFault
+end_at job at = then_read (bounds_at job at) (λ _. then_read (begin_at job at) (λ _. ending_at job at))
+
 -- a body is read, and the place behind the command is known
 abbrev pub placed : ℕ → Result CommandSeen Wrong → Result (CommandSeen × ℕ) ReadFault
 placed next (Ok p) = Ok (p, next)
@@ -99,10 +104,6 @@ read_at job at =
     (λ _. then_read (ending_at job at) (λ end. placed (end + 2) (body_at (take end job) at))))
 
 -- the code's answers, with places and bytes as numbers and lists
-abbrev pub seen_read : Result (Command × ℕ) ReadFault → Result (CommandSeen × ℕ) ReadFault
-seen_read (Ok x) = Ok (seen_command x.0, x.1)
-seen_read (Err e) = Err e
-
 abbrev pub seen_answer : Result Command ReadFault → Result CommandSeen ReadFault
 seen_answer (Ok c) = Ok (seen_command c)
 seen_answer (Err e) = Err e

@@ -2,9 +2,10 @@
 ghost use Rattle.std.specs.Prelude.{◌≡◌, drop};
 ghost use Rattle.jobgroups.specs.Commands.{seen_reading, command_at};
 ghost use Rattle.jobgroups.specs.Table.{order};
-ghost use Rattle.job.specs.Reading.{first_led, parsed_at};
+ghost use Rattle.job.specs.Reading.{first_led, parsed_at, placed, seen_answer, answer_of};
 
 use crate::commands::command;
+use crate::fault::ReadFault;
 use jobgroups::command::Command;
 use jobgroups::letters::{LabelLetters, Letters, StationLetters};
 use jobparts::bytes::rest_at;
@@ -45,25 +46,35 @@ pub(crate) fn command_at<'a>(
 ) -> Result<Command<'a>, Wrong>
     ensures { seen_reading result ≡ command_at letters cursor.old.body.now cursor.old.at }
 {
-    // Kept so: by `?` the command is moved once more.
-    let command = command(letters, cursor);
-    if command.is_ok() {
-        cursor.end()?;
-    }
-    command
+    let command = command(letters, cursor)?;
+    cursor.end()?;
+    Ok(command)
 }
 
-// Reads a body from the place behind its ESC; `at` is the place of the ESC.
-pub(crate) fn parse<'a>(body: &'a [u8], at: usize, start: usize) -> Result<Command<'a>, Wrong>
-    ensures { seen_reading result ≡ parsed_at (first_led order (drop start body.now)) body.now at start }
+// Reads a body from the place behind its ESC; `at` is the place of the ESC, and reading goes on at `next`.
+pub(crate) fn parse<'a>(
+    body: &'a [u8],
+    at: usize,
+    start: usize,
+    next: usize,
+) -> Result<Command<'a>, ReadFault>
+    ensures { let told = parsed_at (first_led order (drop start body.now)) body.now at start in
+        seen_answer result ≡ answer_of (placed next told) }
 {
-    let letters = letters_at(rest_at(body, start)).ok_or(Wrong {
-        refusal: ReadRefusal::UnknownLetters,
-        place: at,
-    })?;
+    let Some(letters) = letters_at(rest_at(body, start)) else {
+        return Err(ReadFault {
+            refusal: ReadRefusal::UnknownLetters,
+            place: at,
+            next,
+        });
+    };
     let mut cursor = Cursor {
         body,
         at: start + letters.bytes().len(),
     };
-    command_at(letters, &mut cursor)
+    command_at(letters, &mut cursor).map_err(|wrong| ReadFault {
+        refusal: wrong.refusal,
+        place: wrong.place,
+        next,
+    })
 }

@@ -1,6 +1,6 @@
 // Reads the command at a place of a job.
 ghost use Rattle.std.specs.Prelude.{◌≡◌, ◌<◌, ◌≤◌, length, IfOk};
-ghost use Rattle.job.specs.Reading.{before, next_escape, bounds_at, begin_at, ending_at, read_at, seen_read, seen_answer, answer_of, next_of};
+ghost use Rattle.job.specs.Reading.{before, next_escape, bounds_at, begin_at, ending_at, end_at, read_at, seen_answer, answer_of, next_of};
 
 use crate::dispatch::parse;
 use crate::fault::ReadFault;
@@ -69,7 +69,7 @@ fn begin(job: &[u8], at: usize) -> Result<(), ReadFault>
 fn ending(job: &[u8], at: usize) -> Result<usize, ReadFault>
     requires { at < length job.now }
     ensures answer { result ≡ ending_at job.now at }
-    ensures within { IfOk result (λ end. end < length job.now) }
+    ensures within { IfOk result (λ end. at ≤ end × end < length job.now) }
 {
     let window = first(rest_at(job, at), LONGEST_COMMAND);
     let line = count_before(window, LF);
@@ -83,32 +83,24 @@ fn ending(job: &[u8], at: usize) -> Result<usize, ReadFault>
     Ok(at + line)
 }
 
-// The command at a place and the place behind it.
-fn read_on<'a>(job: &'a [u8], at: usize) -> Result<(Command<'a>, usize), ReadFault>
-    ensures { seen_read result ≡ read_at job.now at }
+// The place of the LF that ends the command at a place, once the bounds and the ESC are tested.
+fn end_of(job: &[u8], at: usize) -> Result<usize, ReadFault>
+    ensures answer { result ≡ end_at job.now at }
+    ensures within { IfOk result (λ end. at ≤ end × end < length job.now) }
 {
     check_bounds(job, at)?;
     begin(job, at)?;
-    let end = ending(job, at)?;
-    let next = end + 2;
-    // Kept so: by map_err and `?` here and in command_at a command of 400 bytes is moved twice more.
-    match parse(first(job, end), at, at + 1) {
-        Ok(command) => Ok((command, next)),
-        Err(wrong) => Err(ReadFault {
-            refusal: wrong.refusal,
-            place: wrong.place,
-            next,
-        }),
-    }
+    ending(job, at)
 }
 
 /// The command at a place or why there is none, and the place where reading goes on.
+// Kept so: a pair made in one arm for the command and the place alike would move a command of 400 bytes once more.
 pub fn read<'a>(job: &'a [u8], at: usize) -> (Result<Command<'a>, ReadFault>, usize)
     ensures answer { seen_answer result.0 ≡ answer_of (read_at job.now at) }
     ensures next { result.1 ≡ next_of (read_at job.now at) }
 {
-    match read_on(job, at) {
-        Ok((command, next)) => (Ok(command), next),
+    match end_of(job, at) {
+        Ok(end) => (parse(first(job, end), at, at + 1, end + 2), end + 2),
         Err(fault) => (Err(fault), fault.next),
     }
 }
