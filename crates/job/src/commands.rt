@@ -134,7 +134,7 @@ fn store_b(cursor: &mut Cursor<'_>) -> Result<(), Wrong>
 }
 
 // The command that the letters tell, with all its parts.
-// Kept so: two functions, one for commands to the label and one for the others, would each hand a command of 400 bytes up.
+// Kept so: a function for each of the two kinds would move a command of 400 bytes once more.
 pub(crate) fn command<'a>(letters: Letters, cursor: &mut Cursor<'a>) -> Result<Command<'a>, Wrong>
     ensures parts { let read = groups_at (parts_of letters) [] in
         Takes (λ c. (seen_command c).parts) result cursor.old cursor.new read }

@@ -94,7 +94,7 @@ fn end_of(job: &[u8], at: usize) -> Result<usize, ReadFault>
 }
 
 /// The command at a place or why there is none, and the place where reading goes on.
-// Kept so: a pair made in one arm for the command and the place alike would move a command of 400 bytes once more.
+// Kept so: command and place as one answer of a function within would move a command of 400 bytes once more.
 pub fn read<'a>(job: &'a [u8], at: usize) -> (Result<Command<'a>, ReadFault>, usize)
     ensures answer { seen_answer result.0 ≡ answer_of (read_at job.now at) }
     ensures next { result.1 ≡ next_of (read_at job.now at) }
