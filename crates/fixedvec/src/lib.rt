@@ -33,7 +33,7 @@ impl<T: Copy, const N: usize> Copy for FixedVec<T, N> {}
 
 impl<T: Copy, const N: usize> FixedVec<T, N> {
     ghost use Rattle.fixedvec.specs.Items.{items};
-    ghost use Rattle.fixedvec.specs.Growing.{Grown};
+    ghost use Rattle.fixedvec.specs.Growing.{Grown, Replaced};
 
     /// No items. The cells hold `blank` until an item comes.
     pub fn new(blank: T) -> FixedVec<T, N>
@@ -89,6 +89,17 @@ impl<T: Copy, const N: usize> FixedVec<T, N> {
         cells[self.len..to].copy_from_slice(more);
         self.len = to;
         Ok(())
+    }
+
+    /// Other items in place of those that are held: all of them or, without room, none.
+    pub fn set(&mut self, others: &[T]) -> Result<(), Full>
+        ensures { Replaced N (items self.old) others.now result (items self.new) }
+    {
+        if others.len() > N {
+            return Err(Full);
+        }
+        self.len = 0;
+        self.extend(others)
     }
 
     /// The items of a slice; none where it has more than there is room for.

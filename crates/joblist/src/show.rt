@@ -1,5 +1,6 @@
 // Prints a command and its parts, one line each.
 use jobgroups::command::*;
+use jobgroups::letters::Letters;
 use jobparts::part::{Part, Source};
 use std::io;
 use std::io::Write;
@@ -81,9 +82,17 @@ fn show_issue(rt: &HostRuntime, i: Issue<'_>) -> io::Result<()> {
     show(rt, "response", i.setup.response)
 }
 
-// What a command is, behind its place and its letters.
-fn head(rt: &HostRuntime, what: &str) -> io::Result<()> {
-    println!(rt; "{what}")
+// What a command's first line begins with.
+#[derive(Clone, Copy)]
+struct Heading {
+    at: usize,
+    letters: Letters,
+}
+
+// The first line, which is one write.
+fn head(rt: &HostRuntime, heading: Heading, what: &str) -> io::Result<()> {
+    let Heading { at, letters } = heading;
+    println!(rt; "{at:06} {letters} {what}")
 }
 
 fn show_drawing(rt: &HostRuntime, ends: Ends<'_>) -> io::Result<()> {
@@ -91,80 +100,88 @@ fn show_drawing(rt: &HostRuntime, ends: Ends<'_>) -> io::Result<()> {
     show_point(rt, ends.to)
 }
 
-fn show_label_command(rt: &HostRuntime, command: LabelCommand<'_>) -> io::Result<()> {
+fn show_label_command(
+    rt: &HostRuntime,
+    heading: Heading,
+    command: LabelCommand<'_>,
+) -> io::Result<()> {
     match command {
         LabelCommand::SetSize(s) => {
-            head(rt, "sizes")?;
+            head(rt, heading, "sizes")?;
             show(rt, "pitch", s.pitch)?;
             show(rt, "width", s.width)?;
             show(rt, "length", s.length)
         }
-        LabelCommand::Clear => head(rt, "clear"),
+        LabelCommand::Clear => head(rt, heading, "clear"),
         LabelCommand::FormatText(f) => {
-            head(rt, "text format")?;
+            head(rt, heading, "text format")?;
             show_text_format(rt, f)
         }
         LabelCommand::FormatBar(f) => {
-            head(rt, "bar format")?;
+            head(rt, heading, "bar format")?;
             show_bar_format(rt, f)
         }
         LabelCommand::DrawLine(l) => {
-            head(rt, "line or rectangle")?;
+            head(rt, heading, "line or rectangle")?;
             show_drawing(rt, l.ends)?;
             show(rt, "shape", l.shape.kind)?;
             show(rt, "dots", l.shape.dots)
         }
         LabelCommand::MarkArea(a) => {
-            head(rt, "clear or invert an area")?;
+            head(rt, heading, "clear or invert an area")?;
             show_drawing(rt, a.ends)?;
             show(rt, "action", a.action)
         }
         LabelCommand::SetLinks(p) => {
-            head(rt, "link strings")?;
+            head(rt, heading, "link strings")?;
             show(rt, "strings", p)
         }
         LabelCommand::SetText(t) => {
-            head(rt, "text")?;
+            head(rt, heading, "text")?;
             show(rt, "field", t.field)?;
             show(rt, "text", t.text)
         }
         LabelCommand::SetBar(t) => {
-            head(rt, "bar text")?;
+            head(rt, heading, "bar text")?;
             show(rt, "field", t.field)?;
             show(rt, "text", t.text)
         }
     }
 }
 
-fn show_station_command(rt: &HostRuntime, command: StationCommand<'_>) -> io::Result<()> {
+fn show_station_command(
+    rt: &HostRuntime,
+    heading: Heading,
+    command: StationCommand<'_>,
+) -> io::Result<()> {
     match command {
         StationCommand::PrintIssue(i) => {
-            head(rt, "issue")?;
+            head(rt, heading, "issue")?;
             show_issue(rt, i)
         }
         StationCommand::BeginSaving(f) => {
-            head(rt, "begin saving")?;
+            head(rt, heading, "begin saving")?;
             show(rt, "form", f.form)?;
             show(rt, "response", f.response)
         }
-        StationCommand::EndSaving => head(rt, "end saving"),
+        StationCommand::EndSaving => head(rt, heading, "end saving"),
         StationCommand::RecallForm(r) => {
-            head(rt, "recall")?;
+            head(rt, heading, "recall")?;
             show(rt, "form", r.form.form)?;
             show(rt, "response", r.form.response)?;
             show(rt, "target", r.target)
         }
-        StationCommand::EmptyStore => head(rt, "empty the store"),
-        StationCommand::WriteStatus => head(rt, "status"),
-        StationCommand::Reset => head(rt, "reset"),
+        StationCommand::EmptyStore => head(rt, heading, "empty the store"),
+        StationCommand::WriteStatus => head(rt, heading, "status"),
+        StationCommand::Reset => head(rt, heading, "reset"),
     }
 }
 
 pub(crate) fn show_command(rt: &HostRuntime, at: usize, command: Command<'_>) -> io::Result<()> {
     let letters = command.letters();
-    print!(rt; "{at:06} {letters} ")?;
+    let heading = Heading { at, letters };
     match command {
-        Command::Label(command) => show_label_command(rt, command),
-        Command::Station(command) => show_station_command(rt, command),
+        Command::Label(command) => show_label_command(rt, heading, command),
+        Command::Station(command) => show_station_command(rt, heading, command),
     }
 }

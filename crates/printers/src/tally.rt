@@ -48,7 +48,7 @@ impl Tally {
         if line.is_empty() || self.taken == u64::MAX {
             return Err(PrinterFault::OutOfStock);
         }
-        self.latest = FixedVec::from_slice(0, line).or(Err(PrinterFault::OutOfStock))?;
+        self.latest.set(line).or(Err(PrinterFault::OutOfStock))?;
         self.taken += 1;
         Ok(())
     }

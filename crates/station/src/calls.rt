@@ -148,7 +148,7 @@ impl<S: FormStore, P: Printer, R1: CountingRule, R2: CountingRule> Machine
             .take(&work[..n])
             .map_err(|why| unplaced(why.into()))?;
         self.label.turn(&self.first, &self.second);
-        self.mode = issue.one_less();
+        self.mode.one_less();
         Ok(n)
     }
 

@@ -18,17 +18,22 @@ pub packed_nowhere : (ls : List (Option ℕ)) (b : List ℕ) (n : ℕ) → lengt
     → from_one (packed_at ls b) n ≡ None
 packed_nowhere ls b n h e = from_one_outside (packed_at ls b) last_form (λ k le. packed_past ls b k (omega arith)) n e
 
-pub packed_lawful : (ls : List (Option ℕ)) (b : List ℕ) → length ls ≡ last_form → length b ≡ packed_total
-    → used ls ≤ packed_total → ((k : ℕ) → size_at ls k ≤ packed_longest) → Lawful (packed_forms ls b)
-packed_lawful ls b all sized within short =
+pub packed_lawful : (ls : List (Option ℕ)) (b : List ℕ) → length ls ≡ last_form → used ls ≤ length b
+    → ((k : ℕ) → size_at ls k ≤ packed_longest) → Lawful (packed_forms ls b)
+packed_lawful ls b all inside short =
     let sizes : (k : ℕ) → size_of (packed_at ls b k) ≤ packed_longest =
-    λ k. omega (arith, packed_size ls b (omega arith) k, short k) in
+    λ k. omega (arith, packed_size ls b inside k, short k) in
     record {
       outside = from_one_outside (packed_at ls b) last_form (λ k le. packed_past ls b k (omega arith));
       short = λ n. omega (arith, from_one_sizes (packed_at ls b) packed_longest sizes n);
       longest = omega arith;
       total = omega arith;
     }
+
+-- the same of a store's own bytes
+pub packed_store_lawful : (ls : List (Option ℕ)) (b : List ℕ) → length ls ≡ last_form → length b ≡ packed_total
+    → used ls ≤ packed_total → ((k : ℕ) → size_at ls k ≤ packed_longest) → Lawful (packed_forms ls b)
+packed_store_lawful ls b all sized within short = packed_lawful ls b all (omega arith) short
 
 pub packed_vacant : (b : List ℕ) → packed_forms (replicate last_form None) b ≡ vacant packed_longest packed_total
 packed_vacant b =

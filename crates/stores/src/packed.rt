@@ -2,7 +2,7 @@
 ghost use Rattle.std.specs.Prelude.{◌≡◌, ◌+◌, ◌≤◌, length, option_copied};
 ghost use Rattle.stores.specs.Forms.{others, stored, vacant};
 ghost use Rattle.stores.specs.Packed.{packed_longest, packed_total};
-ghost use Rattle.stores.specs.PackedForms.{packed_lawful};
+ghost use Rattle.stores.specs.PackedForms.{packed_store_lawful};
 
 use crate::answers::{LoadFault, StoreFault};
 use crate::packed::bytes::splice;
@@ -79,7 +79,7 @@ impl FormStore for PackedStore {
     ghost forms = { packed_of };
 
     ghost lawful = { λ s.
-        packed_lawful s.lens.entries s.bytes s.lens.all s.sized s.lens.within s.lens.short };
+        packed_store_lawful s.lens.entries s.bytes s.lens.all s.sized s.lens.within s.lens.short };
 
     fn size(&self, number: u8) -> Option<usize> {
         self.form(number).map(|form| form.len())

@@ -122,10 +122,11 @@ fn work(rt: &HostRuntime) -> io::Result<ExitCode> {
     Ok(ExitCode::SUCCESS)
 }
 
-fn main(rt: HostRuntime) -> io::Result<ExitCode> {
+// A failure to read or write is told in the words of the system.
+fn main(rt: HostRuntime) -> anyhow::Result<ExitCode> {
     match work(&rt) {
         // Whoever reads the picture may stop before its end.
         Err(e) if e.kind() == io::ErrorKind::BrokenPipe => Ok(ExitCode::SUCCESS),
-        ended => ended,
+        ended => Ok(ended?),
     }
 }

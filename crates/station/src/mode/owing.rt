@@ -1,28 +1,24 @@
 // The labels that are owed.
 ghost use Rattle.std.specs.Prelude.{◌≡◌};
+ghost use Rattle.station.specs.declared.mode.Issue.{Issue};
+ghost use Rattle.station.specs.declared.mode.Mode.TheVariants.{Owing};
 ghost use Rattle.station.specs.Seen.{seen_mode};
 ghost use Rattle.station.specs.Steps.{one_less};
 ghost use Rattle.station.specs.Views.{owed_in};
 
-use crate::mode::{Issue, Mode};
-
-impl Issue {
-    // What is owed after one label more.
-    pub(crate) fn one_less(self) -> Mode
-        ensures { seen_mode result ≡ one_less self.left self.size }
-    {
-        if self.left <= 1 {
-            Mode::Idle
-        } else {
-            Mode::Owing(Issue {
-                left: self.left - 1,
-                size: self.size,
-            })
-        }
-    }
-}
+use crate::mode::Mode;
 
 impl Mode {
+    // One label of an issue less is owed. In place, since a mode has the room of a draft.
+    pub(crate) fn one_less(&mut self)
+        ensures { (issue : Issue) → self.old ≡ Owing issue → seen_mode self.new ≡ one_less issue.left issue.size }
+    {
+        match self {
+            Mode::Owing(issue) if issue.left > 1 => issue.left -= 1,
+            mode => *mode = Mode::Idle,
+        }
+    }
+
     pub(crate) fn owed(&self) -> u16
         ensures { result ≡ owed_in (seen_mode self.now) }
     {
